@@ -1,0 +1,10 @@
+-- The laws of sets of species. `Least` has those of `lowest` and `rest`.
+pub mod Bools
+pub mod Members
+pub mod Digits
+pub mod Tests
+pub mod Sizes
+pub mod Least
+pub mod Ordered
+pub mod Forms
+pub mod Induct

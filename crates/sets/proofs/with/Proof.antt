@@ -1,0 +1,13 @@
+-- The union with what `single` gives.
+use borrow.Author.Needs.{needs}
+use Rattle.sets.proofs.with.Statement.{statement}
+use Rattle.sets.proofs.with.Tie as tie
+
+single-requires : tie.Need-single-requires
+single-requires c κs = search needs
+
+returns : tie.Need-returns
+returns c = cc
+
+pub with-spec : {M : Type 1} → statement M
+with-spec = tie.close (tie.spec single-requires returns)

@@ -1,0 +1,3 @@
+-- Sets of species: as tests, and as 64-bit numbers.
+pub mod Species
+pub mod Sets

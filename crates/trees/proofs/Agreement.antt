@@ -1,0 +1,117 @@
+-- Triplets put together, and PC: it holds exactly when no entered triplet differs from what the tree holds on a triple that it resolves. Assumes
+-- nothing.
+use mathlib.Core.Bool.{So, _&&_, _||_, not}
+use mathlib.Core.Logic.{_↔_, _≢_, _⊎_, inl, inr, ⊎-elim}
+use mathlib.Core.Path.{_∙_, _≡_, refl, sym}
+use Prim.Native.Nat.{ℕ}
+use borrow.Author.Tests.{eq-eqb, eqb-true}
+use lib.Dec.{eqb}
+use Rattle.sets.proofs.Bools.{and-i, and-l, and-r, not-e, not-i, or-case, or-l, or-r, test}
+use Rattle.sets.specs.Species.{Below, Inside, Species}
+use Rattle.trees.proofs.Criterion.{held-around, held-inside}
+use Rattle.trees.proofs.Formed.{Formed, formed-e, formed-i}
+use Rattle.trees.proofs.Lowest.{some-species}
+use Rattle.trees.proofs.Refused.{refused}
+use Rattle.trees.proofs.Splits.{holds-e, holds-proper, holds-swap}
+use Rattle.trees.specs.Check.{PC, R}
+use Rattle.trees.specs.Held.{CanBeHeld}
+use Rattle.trees.specs.Trees.{Tree, under}
+use Rattle.trees.specs.Triplets.{Proper, Triplets, both, holds, only}
+
+pub both-proper : (E E′ : Triplets) → Proper E → Proper E′ → Proper (both E E′)
+both-proper E E′ p q = record {
+  swap = λ a b c h. or-case (E a b c) (E′ a b c) h (λ k. or-l (E b a c) _ (p .swap a b c k)) (λ k. or-r (E b a c) _ (q .swap a b c k));
+  two = λ a b c h. or-case (E a b c) (E′ a b c) h (p .two a b c) (q .two a b c);
+  third = λ a b c h. or-case (E a b c) (E′ a b c) h (p .third a b c) (q .third a b c);
+}
+
+-- ---- one triplet
+
+pub only-e : (a b c x y z : ℕ) → So (only a b c x y z) → (z ≡ c) × (((x ≡ a) × (y ≡ b)) ⊎ ((x ≡ b) × (y ≡ a)))
+only-e a b c x y z h = (
+  eqb-true z c (and-l (eqb z c) _ h),
+  or-case (eqb x a && eqb y b) (eqb x b && eqb y a) (and-r (eqb z c) _ h)
+      (λ k. inl (eqb-true x a (and-l (eqb x a) _ k), eqb-true y b (and-r (eqb x a) _ k)))
+      (λ k. inr (eqb-true x b (and-l (eqb x b) _ k), eqb-true y a (and-r (eqb x b) _ k))),
+)
+
+pub only-l : (a b c : ℕ) → So (only a b c a b c)
+only-l a b c = and-i (eqb c c) _ (eq-eqb c c refl) (or-l (eqb a a && eqb b b) _ (and-i (eqb a a) _ (eq-eqb a a refl) (eq-eqb b b refl)))
+
+pub only-r : (a b c : ℕ) → So (only a b c b a c)
+only-r a b c = and-i (eqb c c) _ (eq-eqb c c refl) (or-r (eqb b a && eqb a b) _ (and-i (eqb b b) _ (eq-eqb b b refl) (eq-eqb a a refl)))
+
+pub only-proper : (a b c : ℕ) → a ≢ b → a ≢ c → b ≢ c → Proper (only a b c)
+only-proper a b c ab ac bc = record {
+  swap = λ x y z h. ⊎-elim (λ e. rw (e .0, e .1, only-e a b c x y z h .0) (only-r a b c)) (λ e. rw (e .0, e .1, only-e a b c x y z h .0) (only-l a b c)) (only-e a b c x y z h .1);
+  two = λ x y z h q. ⊎-elim (λ e. ab (sym (e .0) ∙ q ∙ e .1)) (λ e. ab (sym (e .1) ∙ sym q ∙ e .0)) (only-e a b c x y z h .1);
+  third = λ x y z h q. let r = only-e a b c x y z h in ⊎-elim (λ e. ac (sym (e .0) ∙ q ∙ r .0)) (λ e. bc (sym (e .0) ∙ q ∙ r .0)) (r .1);
+}
+
+-- a tree holds one triplet at most on three species: ab|c and ac|b would join a, b and c
+pub exclusive : (T : Tree) → Formed T → (a b c : ℕ) → So (holds T a b c) → So (holds T a c b) → ⊥
+exclusive T w a b c h k =
+    let o = holds-e T a b c h in
+    let U : Species = λ x. eqb a x || (eqb b x || eqb c x) in
+    let ua : So (U a) = or-l (eqb a a) _ (eq-eqb a a refl) in
+    let ub : So (U b) = or-r (eqb a b) _ (or-l (eqb b b) _ (eq-eqb b b refl)) in
+    let uc : So (U c) = or-r (eqb a c) _ (or-r (eqb b c) _ (eq-eqb c c refl)) in
+    let all : (Q : Species) → So (Q a) → So (Q b) → So (Q c) → Inside U Q = λ Q qa qb qc x hx. or-case (eqb a x) _ hx
+    (λ e. rw (← (eqb-true a x e)) qa) (λ r. or-case (eqb b x) (eqb c x) r (λ e. rw (← (eqb-true b x e)) qb) (λ e. rw (← (eqb-true c x e)) qc)) in
+    refused (holds T) U a b ua ub (o .ab)
+    (λ X cl u hu xu x hx.
+    let xa : So (X a) = test (X a) (λ q. q) (λ q. absurd (not-e (X u) (all (λ z. not (X z)) q
+    (not-i (X b) (λ r. not-e (X a) q (cl b a c r ub ua uc (holds-swap T a b c h))))
+    (not-i (X c) (λ r. not-e (X a) q (cl c a b r uc ua ub (holds-swap T a c b k)))) u hu) xu)) in
+    all X xa (cl a b c xa ua ub uc h) (cl a c b xa ua uc ub k) x hx)
+    T w (all (under T) (o .in-a) (o .in-b) (o .in-c)) (λ x y z hx hy hz e. e)
+
+-- no entered triplet differs from what T holds
+abbrev pub Agrees : Triplets → Tree → Type 0
+Agrees E T = (a b c : ℕ) → So (R E T a b c) → So (holds T a b c)
+
+module _ (E : Triplets) (pr : Proper E) (T : Tree) where
+  pub R-proper : Proper (R E T)
+  R-proper = record {
+    swap = λ a b c h. and-i (E b a c) _ (pr .swap a b c (and-l (E a b c) _ h)) (or-case (holds T a b c) _ (and-r (E a b c) _ h)
+        (λ k. or-l (holds T b a c) _ (holds-swap T a b c k))
+        (λ k. or-r (holds T b a c) _ (or-case (holds T a c b) (holds T b c a) k (λ q. or-r (holds T b c a) _ q) (λ q. or-l (holds T b c a) _ q))));
+    two = λ a b c h. pr .two a b c (and-l (E a b c) _ h);
+    third = λ a b c h. pr .third a b c (and-l (E a b c) _ h);
+  }
+
+  pub R-in : (a b c : ℕ) → So (R E T a b c) → So (under T a) × So (under T b) × So (under T c)
+  R-in a b c h = or-case (holds T a b c) _ (and-r (E a b c) _ h) (λ q. let o = holds-e T a b c q in (o .in-a, o .in-b, o .in-c))
+      (λ q. or-case (holds T a c b) (holds T b c a) q (λ r. let o = holds-e T a c b r in (o .in-a, o .in-c, o .in-b)) (λ r. let o = holds-e T b c a r in (o .in-c, o .in-a, o .in-b)))
+
+  -- then T holds all of R
+  pub agrees-held : Formed T → Agrees E T → CanBeHeld (R E T) (under T)
+  agrees-held w ag = (T, record { species = λ x. refl; formed = formed-i T w; keeps = λ a b c ha hb hc h. ag a b c h })
+
+  -- trees on all of S are no other than trees on T's species, for triplets inside T
+  module _ (w : Formed T) (N : ℕ) (S : Species) (bd : Below N S) (sub : Inside (under T) S) where
+    wider : (E′ : Triplets) → Proper E′ → ((a b c : ℕ) → So (E′ a b c) → So (under T a) × So (under T b)) → CanBeHeld E′ (under T) ↔ CanBeHeld E′ S
+    wider E′ p inn = let u = some-species T w in
+        (held-around E′ N p (under T) S bd sub (u .0) (u .1) (λ a b c ha hb hc. inn a b c), held-inside E′ N p S (under T) bd sub (u .0) (u .1))
+
+    pub pc-agrees : PC E S T → Agrees E T
+    pc-agrees (t, k) a b c h =
+        let all : (x y z : ℕ) → So (under T x) × So (under T y) × So (under T z) → So (both (holds T) (R E T) x y z) → So (holds t x y z)
+        = λ x y z i q. k .keeps x y z (sub x (i .0)) (sub y (i .1)) (sub z (i .2)) q in
+        let new : (x y z : ℕ) → So (R E T x y z) → So (holds t x y z) = λ x y z q. all x y z (R-in x y z q) (or-r (holds T x y z) _ q) in
+        let old : (x y z : ℕ) → So (holds T x y z) → So (holds t x y z) = λ x y z q. let o = holds-e T x y z q in all x y z (o .in-a, o .in-b, o .in-c) (or-l (holds T x y z) _ q) in
+        let f = formed-e t (k .formed) in
+        or-case (holds T a b c) _ (and-r (E a b c) _ h) (λ q. q) (λ q. absurd (or-case (holds T a c b) (holds T b c a) q
+        (λ r. exclusive t f a b c (new a b c h) (old a c b r))
+        (λ r. exclusive t f b a c (new b a c (R-proper .swap a b c h)) (old b c a r))))
+
+    pub agrees-pc : Agrees E T → PC E S T
+    agrees-pc ag = wider (both (holds T) (R E T)) (both-proper (holds T) (R E T) (holds-proper T) R-proper)
+        (λ a b c h. or-case (holds T a b c) (R E T a b c) h (λ q. let o = holds-e T a b c q in (o .in-a, o .in-b)) (λ q. let i = R-in a b c q in (i .0, i .1)))
+        .0 (T, record { species = λ x. refl; formed = formed-i T w; keeps = λ a b c ha hb hc h. or-case (holds T a b c) _ h (λ q. q) (ag a b c) })
+
+    pub one-wider : (a b c : ℕ) → So (under T a) → So (under T b) → a ≢ b → a ≢ c → b ≢ c
+        → CanBeHeld (both (R E T) (only a b c)) (under T) ↔ CanBeHeld (both (R E T) (only a b c)) S
+    one-wider a b c ha hb ab ac bc = wider (both (R E T) (only a b c)) (both-proper (R E T) (only a b c) R-proper (only-proper a b c ab ac bc)) (λ x y z h. or-case (R E T x y z) _ h
+        (λ q. let i = R-in x y z q in (i .0, i .1))
+        (λ q. ⊎-elim (λ e. (rw (e .0) ha, rw (e .1) hb)) (λ e. (rw (e .0) hb, rw (e .1) ha)) (only-e a b c x y z q .1)))

@@ -1,0 +1,24 @@
+-- The laws of trees and the theorems; `Theorems` is the page to read.
+pub mod Theorems
+pub mod Splits
+pub mod Formed
+pub mod Lowest
+pub mod Groups
+pub mod Kids
+pub mod Parts
+pub mod Refused
+pub mod Outcomes
+pub mod Built
+pub mod Stopping
+pub mod Joins
+pub mod Criterion
+pub mod House
+pub mod Rebuild
+pub mod Unique
+pub mod Bound
+pub mod Agreement
+pub mod Chain
+pub mod Core
+pub mod Siblings
+pub mod Alike
+pub mod Triples

@@ -1,0 +1,7 @@
+-- Rooted trees, triplets, links, building and the check: definitions only. What is proved of them stands in `proofs/`.
+pub mod Trees
+pub mod Triplets
+pub mod Links
+pub mod Build
+pub mod Held
+pub mod Check
