@@ -1,8 +1,8 @@
--- Triplets put together, and PC: it holds exactly when no entered triplet differs from what the tree holds on a triple that it resolves. Assumes
--- nothing.
-use mathlib.Core.Bool.{So, _&&_, _||_, not}
-use mathlib.Core.Logic.{_↔_, _≢_, _⊎_, inl, inr, ⊎-elim}
-use mathlib.Core.Path.{_∙_, _≡_, refl, sym}
+-- PC holds exactly when no entered triplet differs from what the tree holds on a triple that it resolves. And a tree holds one triplet at
+-- most on three species. Assumes nothing.
+use mathlib.Core.Bool.{So, _||_, not}
+use mathlib.Core.Logic.{_↔_, _≢_, ⊎-elim}
+use mathlib.Core.Path.{refl}
 use Prim.Native.Nat.{ℕ}
 use borrow.Author.Tests.{eq-eqb, eqb-true}
 use lib.Dec.{eqb}
@@ -13,40 +13,11 @@ use Rattle.trees.proofs.Formed.{Formed, formed-e, formed-i}
 use Rattle.trees.proofs.Lowest.{some-species}
 use Rattle.trees.proofs.Refused.{refused}
 use Rattle.trees.proofs.Splits.{holds-e, holds-proper, holds-swap}
+use Rattle.trees.proofs.Triplets.{both-proper, only-e, only-proper}
 use Rattle.trees.specs.Check.{PC, R}
 use Rattle.trees.specs.Held.{CanBeHeld}
 use Rattle.trees.specs.Trees.{Tree, under}
 use Rattle.trees.specs.Triplets.{Proper, Triplets, both, holds, only}
-
-pub both-proper : (E E′ : Triplets) → Proper E → Proper E′ → Proper (both E E′)
-both-proper E E′ p q = record {
-  swap = λ a b c h. or-case (E a b c) (E′ a b c) h (λ k. or-l (E b a c) _ (p .swap a b c k)) (λ k. or-r (E b a c) _ (q .swap a b c k));
-  two = λ a b c h. or-case (E a b c) (E′ a b c) h (p .two a b c) (q .two a b c);
-  third = λ a b c h. or-case (E a b c) (E′ a b c) h (p .third a b c) (q .third a b c);
-}
-
--- ---- one triplet
-
-pub only-e : (a b c x y z : ℕ) → So (only a b c x y z) → (z ≡ c) × (((x ≡ a) × (y ≡ b)) ⊎ ((x ≡ b) × (y ≡ a)))
-only-e a b c x y z h = (
-  eqb-true z c (and-l (eqb z c) _ h),
-  or-case (eqb x a && eqb y b) (eqb x b && eqb y a) (and-r (eqb z c) _ h)
-      (λ k. inl (eqb-true x a (and-l (eqb x a) _ k), eqb-true y b (and-r (eqb x a) _ k)))
-      (λ k. inr (eqb-true x b (and-l (eqb x b) _ k), eqb-true y a (and-r (eqb x b) _ k))),
-)
-
-pub only-l : (a b c : ℕ) → So (only a b c a b c)
-only-l a b c = and-i (eqb c c) _ (eq-eqb c c refl) (or-l (eqb a a && eqb b b) _ (and-i (eqb a a) _ (eq-eqb a a refl) (eq-eqb b b refl)))
-
-pub only-r : (a b c : ℕ) → So (only a b c b a c)
-only-r a b c = and-i (eqb c c) _ (eq-eqb c c refl) (or-r (eqb b a && eqb a b) _ (and-i (eqb b b) _ (eq-eqb b b refl) (eq-eqb a a refl)))
-
-pub only-proper : (a b c : ℕ) → a ≢ b → a ≢ c → b ≢ c → Proper (only a b c)
-only-proper a b c ab ac bc = record {
-  swap = λ x y z h. ⊎-elim (λ e. rw (e .0, e .1, only-e a b c x y z h .0) (only-r a b c)) (λ e. rw (e .0, e .1, only-e a b c x y z h .0) (only-l a b c)) (only-e a b c x y z h .1);
-  two = λ x y z h q. ⊎-elim (λ e. ab (sym (e .0) ∙ q ∙ e .1)) (λ e. ab (sym (e .1) ∙ sym q ∙ e .0)) (only-e a b c x y z h .1);
-  third = λ x y z h q. let r = only-e a b c x y z h in ⊎-elim (λ e. ac (sym (e .0) ∙ q ∙ r .0)) (λ e. bc (sym (e .0) ∙ q ∙ r .0)) (r .1);
-}
 
 -- a tree holds one triplet at most on three species: ab|c and ac|b would join a, b and c
 pub exclusive : (T : Tree) → Formed T → (a b c : ℕ) → So (holds T a b c) → So (holds T a c b) → ⊥

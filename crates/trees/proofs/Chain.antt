@@ -6,10 +6,10 @@ use mathlib.Core.Path.{sym}
 use Prim.Native.Nat.{ℕ}
 use Rattle.sets.proofs.Bools.{and-i, and-l, and-r, not-e, or-case, or-l, or-r, test}
 use Rattle.sets.specs.Species.{Below, Inside, Species}
-use Rattle.trees.proofs.Agreement.{both-proper, only-e, only-l, only-proper, only-r}
 use Rattle.trees.proofs.Criterion.{held-inside, no-tree, not-held, stopping-up}
 use Rattle.trees.proofs.Parts.{part-closed, part-in, part-least, part-refl, part-sym}
 use Rattle.trees.proofs.Stopping.{Stopping}
+use Rattle.trees.proofs.Triplets.{both-proper, only-e, only-l, only-proper, only-r}
 use Rattle.trees.specs.Check.{pair}
 use Rattle.trees.specs.Held.{CanBeHeld}
 use Rattle.trees.specs.Links.{Closed, Joined, part}

@@ -1,6 +1,7 @@
 -- The laws of trees and the theorems; `Theorems` is the page to read.
 pub mod Theorems
 pub mod Splits
+pub mod Triplets
 pub mod Formed
 pub mod Lowest
 pub mod Groups

@@ -1,8 +1,13 @@
 -- A statement on all triples a < b < c is one on three species in any order: what a search through the triples rests on. Assumes nothing.
-use mathlib.Core.Bool.{So}
+use mathlib.Core.Bool.{So, and-comm, not}
+use mathlib.Core.Path.{_∙_, ap}
 use Prim.Native.Nat.{_<_, ℕ}
-use Rattle.sets.proofs.Bools.{by-order, or-case, or-l, or-r}
-use Rattle.trees.specs.Triplets.{Proper, Triplets, onTriple}
+use Rattle.sets.proofs.Bools.{and-i, and-l, and-r, by-order, not-e, not-i, or-case, or-l, or-r}
+use Rattle.trees.proofs.Agreement.{R-in, R-proper}
+use Rattle.trees.proofs.Splits.{holds-e, holds-swap}
+use Rattle.trees.specs.Check.{R, core, differs, unsure}
+use Rattle.trees.specs.Trees.{Tree, under}
+use Rattle.trees.specs.Triplets.{Proper, Triplets, holds, onTriple}
 
 -- P is so of one of the three triplets on no triple of species below N
 abbrev pub Nowhere : ℕ → Triplets → Type 0
@@ -23,3 +28,29 @@ module _ (N : ℕ) (P : Triplets) (pr : Proper P) (inn : (a b c : ℕ) → So (P
 
   pub nowhere-e : Nowhere N P → (a b c : ℕ) → So (P a b c) → ⊥
   nowhere-e nw a b c h = by-order a b (λ l. in-order nw a b c l h) (λ e. pr .two a b c h e) (λ l. in-order nw b a c l (pr .swap a b c h))
+
+-- ---- what the check looks for speaks of three species of the candidate, and does not mind the order of the close pair
+
+module _ (E : Triplets) (pr : Proper E) (T : Tree) where
+  pub differs-proper : Proper (differs E T)
+  differs-proper = let rp = R-proper E pr T in record {
+    swap = λ a b c h. and-i (R E T b a c) _ (rp .swap a b c (and-l (R E T a b c) _ h))
+        (not-i (holds T b a c) (λ k. not-e (holds T a b c) (and-r (R E T a b c) _ h) (holds-swap T b a c k)));
+    two = λ a b c h. rp .two a b c (and-l (R E T a b c) _ h);
+    third = λ a b c h. rp .third a b c (and-l (R E T a b c) _ h);
+  }
+
+  pub differs-in : (a b c : ℕ) → So (differs E T a b c) → So (under T a) × So (under T b) × So (under T c)
+  differs-in a b c h = R-in E pr T a b c (and-l (R E T a b c) _ h)
+
+module _ (E : Triplets) (N : ℕ) (T : Tree) where
+  pub unsure-proper : Proper (unsure E N T)
+  unsure-proper = record {
+    swap = λ a b c h. and-i (holds T b a c) _ (holds-swap T a b c (and-l (holds T a b c) _ h))
+        (ap not (and-comm (core (R E T) N N (under T) b c a) (core (R E T) N N (under T) a c b)) ∙ and-r (holds T a b c) _ h);
+    two = λ a b c h. holds-e T a b c (and-l (holds T a b c) _ h) .ab;
+    third = λ a b c h. holds-e T a b c (and-l (holds T a b c) _ h) .ac;
+  }
+
+  pub unsure-in : (a b c : ℕ) → So (unsure E N T a b c) → So (under T a) × So (under T b) × So (under T c)
+  unsure-in a b c h = let o = holds-e T a b c (and-l (holds T a b c) _ h) in (o .in-a, o .in-b, o .in-c)

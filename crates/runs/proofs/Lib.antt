@@ -1,0 +1,2 @@
+-- The runs hold.
+pub mod Hold

@@ -1,0 +1,9 @@
+-- The laws of triples, of their indices, and of the table.
+pub mod Indices
+pub mod Values
+pub mod Names
+pub mod Places
+pub mod Bytes
+pub mod Limits
+pub mod Find
+pub mod Passing

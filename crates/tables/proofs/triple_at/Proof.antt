@@ -1,0 +1,84 @@
+-- `tables::triple_at` meets its contract: the three species are those that the index gives back, by `triple-back`. Assumes nothing.
+use mathlib.Core.Path.{_≡_, sym, ap, ap₂, _∙_, subst}
+use Prim.Native.Nat.{ℕ, _-_, _≤_, _<_}
+use native.Mathlib.Omega.{arith}
+use borrow.Author.Needs.{needs}
+use Rattle.tables.specs.Index.{C, index, largest, highAt, midAt, lowAt}
+use Rattle.tables.proofs.Indices.{triple-back}
+use Rattle.tables.proofs.Names.{named-beyond, named-as}
+use Rattle.tables.proofs.triple_at.Statement.{statement}
+use Rattle.tables.proofs.triple_at.Tie as tie
+
+room-requires : tie.Need-room-requires
+room-requires c κs = search needs
+
+returns : tie.Need-returns
+returns c =
+    let i = c .before .before .args .i in
+    sym (named-beyond i (subst (λ (x : ℕ). x ≤ i) (c .before .room .ensures) (c .if1 .taken)))
+
+high-at-requires : tie.Need-high-at-requires
+high-at-requires c κs = search needs
+
+-- there is such a triple
+inside : (c : tie.Else1) → c .before .before .args .i < C 64 3
+inside c = subst (λ (x : ℕ). c .before .before .args .i < x) (c .before .room .ensures) (c .if1 .left)
+
+room-requires-2 : tie.Need-room-requires-2
+room-requires-2 c κs =
+    let i = c .before .before .before .args .i in
+    omega (arith, triple-back 64 i (inside (c .before)) .2, c .high-at .ensures)
+
+-- what the highest species adds to the index, and what the middle one adds
+added : (c : tie.After-room2) → c .room2 .result ≡ C (highAt 64 (c .before .before .before .before .args .i)) 3
+added c = c .room2 .ensures ∙ ap (λ (h : ℕ). C h 3) (c .before .high-at .ensures)
+
+middle : (c : tie.After-mid-at) → c .mid-at .result ≡ midAt 64 (c .before .before .before .before .before .args .i)
+unfolding midAt
+middle c =
+    let i = c .before .before .before .before .before .args .i in
+    c .mid-at .ensures ∙ ap (λ (r : ℕ). largest 2 64 (i - r)) (added (c .before))
+
+also : (c : tie.After-pairs) → c .pairs .result ≡ C (midAt 64 (c .before .before .before .before .before .before .args .i)) 2
+also c = c .pairs .ensures ∙ ap (λ (m : ℕ). C m 2) (middle (c .before))
+
+sub-rest : tie.Need-sub-rest
+unfolding index
+sub-rest c =
+    let i = c .before .before .before .before .args .i in
+    omega (arith, triple-back 64 i (inside (c .before .before)) .3, added c)
+
+mid-at-requires : tie.Need-mid-at-requires
+mid-at-requires c κs = search needs
+
+pairs-requires : tie.Need-pairs-requires
+pairs-requires c κs =
+    let t = triple-back 64 (c .before .before .before .before .before .args .i) (inside (c .before .before .before)) in
+    omega (arith, t .1, t .2, middle c)
+
+sub-t7 : tie.Need-sub-t7
+unfolding index
+sub-t7 c =
+    let t = triple-back 64 (c .before .before .before .before .before .before .args .i) (inside (c .before .before .before .before)) in
+    omega (arith, t .3, added (c .before .before), also c)
+
+returns-2 : tie.Need-returns-2
+unfolding lowAt
+returns-2 c =
+    let i = c .before .before .before .before .before .before .args .i in
+    sym (named-as i _ _ _ (inside (c .before .before .before .before))
+    (sym (ap₂ (λ (x y : ℕ). i - x - y) (added (c .before .before)) (also c))) (sym (middle (c .before))) (sym (c .before .before .before .high-at .ensures)))
+
+pub triple-at-spec : {M : Type 1} → statement M
+triple-at-spec =
+    tie.close
+    (tie.spec
+    room-requires
+    returns
+    high-at-requires
+    room-requires-2
+    sub-rest
+    mid-at-requires
+    pairs-requires
+    sub-t7
+    returns-2)

@@ -1,0 +1,59 @@
+-- The table of entered triplets. Document 01, "Species, sets, triples": "A triplet table has exactly C(n,3) bytes. In a byte, 1 stands for ab|c,
+-- 2 for ac|b, 4 for bc|a, added together; 0 says nothing. More than one bit means that sources disagree."
+use mathlib.Core.Path.{_≡_}
+use mathlib.Core.Logic.{_≢_}
+use mathlib.Core.Bool.{Bool, cond, _&&_, _||_}
+use mathlib.Core.List.{List, [], _∷_}
+use Prim.Native.Nat.{ℕ, suc, min, max}
+use lib.Dec.{eqb, ltb}
+use lib.ListN.{length, getD, set}
+use Rattle.sets.specs.Sets.{has, union, single}
+use Rattle.trees.specs.Triplets.{Triplets, different, only, both}
+use Rattle.tables.specs.Index.{C, index, low, mid, high}
+
+-- "the table length is C(n,3)"
+abbrev pub fits : List ℕ → ℕ → Bool
+fits t n = eqb (length t) (C n 3)
+
+-- the highest byte that a table may hold
+abbrev pub top : ℕ
+top = 7
+
+-- the first place with a byte over it; the length where there is none
+unfoldable pub over : List ℕ → ℕ
+over [] = 0
+over (v ∷ t) = cond (ltb top v) 0 (suc (over t))
+
+-- where ab|c stands, for three species in any order: the place of their triple, and in its byte the bit 0 (which stands for 1) where c is the
+-- highest of the three, 1 (for 2) where it is the middle one, 2 (for 4) where it is the lowest
+unfoldable pub placeOf : ℕ → ℕ → ℕ → ℕ
+placeOf a b c = index (low a b c) (mid a b c) (high a b c)
+
+unfoldable pub bitOf : ℕ → ℕ → ℕ → ℕ
+bitOf a b c = cond (ltb (max a b) c) 0 (cond (ltb (min a b) c) 1 2)
+
+-- ab|c is entered; a place that the table does not have says nothing
+unfoldable pub entered : List ℕ → Triplets
+entered t a b c = different a b c && has (getD t (placeOf a b c) 0) (bitOf a b c)
+
+-- the table with ab|c entered as well
+unfoldable pub enter : List ℕ → ℕ → ℕ → ℕ → List ℕ
+enter t a b c = set t (placeOf a b c) (union (getD t (placeOf a b c) 0) (single (bitOf a b c)))
+
+-- more than one bit: "sources disagree"
+unfoldable pub disagree : ℕ → Bool
+disagree v = (has v 0 && has v 1) || ((has v 0 && has v 2) || (has v 1 && has v 2))
+
+-- What the byte v of the triple a < b < c tells.
+pub record Byte (t : List ℕ) (a b c v : ℕ) : Type 0 where
+  pub is : v ≡ getD t (index a b c) 0
+  pub ab : has v 0 ≡ entered t a b c
+  pub ac : has v 1 ≡ entered t a c b
+  pub bc : has v 2 ≡ entered t b c a
+
+-- What the table t′ tells once ab|c was entered into t: that triplet and no other is new.
+pub record Entered (t t′ : List ℕ) (a b c : ℕ) : Type 0 where
+  pub is : t′ ≡ enter t a b c
+  pub says : (x y z : ℕ) → entered t′ x y z ≡ both (entered t) (only a b c) x y z
+  pub stays : (i : ℕ) → i ≢ placeOf a b c → getD t′ i 0 ≡ getD t i 0
+  pub long : length t′ ≡ length t

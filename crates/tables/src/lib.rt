@@ -1,0 +1,203 @@
+// Triples of species, their indices, and the table of entered triplets.
+ghost use mathlib.Core.Path.{_≡_};
+ghost use Prim.Native.Nat.{_<_, _≤_, min, max};
+ghost use lib.ListN.{length};
+ghost use mathlib.Core.Bool.{So};
+ghost use Rattle.sets.specs.Sets.{single};
+ghost use Rattle.trees.specs.Triplets.{different};
+ghost use Rattle.tables.specs.Index.{C, index, low, mid, high, largest, highAt};
+ghost use Rattle.tables.specs.Bytes.{fits, over, placeOf, bitOf, entered, Byte, Entered};
+ghost use Rattle.tables.specs.Named.{named};
+
+// The highest byte that a table may hold.
+pub const TOP: u8 = 7;
+
+// Three species in increasing order.
+pub struct Triple {
+    pub low: usize,
+    pub mid: usize,
+    pub high: usize,
+}
+
+// The triple that an index stands for, for people to read.
+pub enum Named {
+    Known(Triple),
+    Beyond,
+}
+
+// Where a triplet stands in the table: the place of its byte, and its bit there, which is 1, 2 or 4.
+struct Mark {
+    place: usize,
+    bit: u8,
+}
+
+// C(n,3): the length of the table for n species.
+pub fn room(n: usize) -> usize
+    requires { ⌜ n ≤ 64 ⌝ }
+    ensures { λ r. ⌜ r ≡ C n 3 ⌝ }
+{
+    if n < 3 {
+        return 0;
+    }
+    n * (n - 1) * (n - 2) / 6
+}
+
+// C(n,2).
+fn pairs(n: usize) -> usize
+    requires { ⌜ n ≤ 64 ⌝ }
+    ensures { λ r. ⌜ r ≡ C n 2 ⌝ }
+{
+    if n < 1 {
+        return 0;
+    }
+    n * (n - 1) / 2
+}
+
+// The index of the triple a < b < c.
+pub fn index(a: usize, b: usize, c: usize) -> usize
+    requires { ⌜ (a < b) × (b < c) × (c < 64) ⌝ }
+    ensures { λ r. ⌜ r ≡ index a b c ⌝ }
+{
+    c * (c - 1) * (c - 2) / 6 + b * (b - 1) / 2 + a
+}
+
+// The highest species of the triple with index i.
+fn high_at(i: usize) -> usize
+    ensures { λ r. ⌜ r ≡ highAt 64 i ⌝ }
+{
+    let mut m = 64;
+    while room(m) > i {
+        m -= 1;
+    }
+    m
+}
+
+// The middle species, where i is the index less what the highest one adds to it.
+fn mid_at(i: usize) -> usize
+    ensures { λ r. ⌜ r ≡ largest 2 64 i ⌝ }
+{
+    let mut m = 64;
+    while pairs(m) > i {
+        m -= 1;
+    }
+    m
+}
+
+// The triple with index i; beyond the 41,664 triples of 64 species there is none.
+pub fn triple_at(i: usize) -> Named
+    ensures { λ r. ⌜ r ≡ named i ⌝ }
+{
+    if i >= room(64) {
+        return Named::Beyond;
+    }
+    let high = high_at(i);
+    let rest = i - room(high);
+    let mid = mid_at(rest);
+    Named::Known(Triple {
+        low: rest - pairs(mid),
+        mid: mid,
+        high: high,
+    })
+}
+
+// Is the length C(n,3)?
+pub fn fits(t: &[u8], n: usize) -> bool
+    requires { ⌜ n ≤ 64 ⌝ }
+    ensures { λ r. ⌜ r ≡ fits (now (t .entry)) n ⌝ }
+{
+    t.len() == room(n)
+}
+
+// The first place with a byte over TOP; the length where there is none.
+pub fn over(t: &[u8]) -> usize
+    ensures { λ r. ⌜ r ≡ over (now (t .entry)) ⌝ }
+{
+    let mut i = 0;
+    while i < t.len() {
+        if t[i] > TOP {
+            return i;
+        }
+        i += 1;
+    }
+    i
+}
+
+// The byte of the triple a < b < c; 0 where the table does not have it.
+pub fn byte(t: &[u8], a: usize, b: usize, c: usize) -> u8
+    requires { ⌜ (a < b) × (b < c) × (c < 64) ⌝ }
+    ensures { λ r. ⌜ Byte (now (t .entry)) a b c r ⌝ }
+{
+    let i = index(a, b, c);
+    if i < t.len() { t[i] } else { 0 }
+}
+
+// The lower of two species.
+fn lower(a: usize, b: usize) -> usize
+    ensures { λ r. ⌜ r ≡ min a b ⌝ }
+{
+    if a < b { a } else { b }
+}
+
+// The higher of two species.
+fn higher(a: usize, b: usize) -> usize
+    ensures { λ r. ⌜ r ≡ max a b ⌝ }
+{
+    if a < b { b } else { a }
+}
+
+// Three species in order.
+fn sorted(a: usize, b: usize, c: usize) -> Triple
+    requires { ⌜ (a < 64) × (b < 64) × (c < 64) ⌝ }
+    ensures { λ r. ⌜ (r .low ≡ low a b c) × (r .mid ≡ mid a b c) × (r .high ≡ high a b c) ⌝ }
+{
+    let l = lower(a, lower(b, c));
+    let h = higher(a, higher(b, c));
+    Triple {
+        low: l,
+        mid: a + b + c - (l + h),
+        high: h,
+    }
+}
+
+// Where ab|c stands: the place of its byte, and its bit in it.
+fn spot(a: usize, b: usize, c: usize) -> Mark
+    requires { ⌜ So (different a b c) × (a < 64) × (b < 64) × (c < 64) ⌝ }
+    ensures { λ r. ⌜ (r .place ≡ placeOf a b c) × (r .bit ≡ single (bitOf a b c)) ⌝ }
+{
+    let t = sorted(a, b, c);
+    let i = index(t.low, t.mid, t.high);
+    if higher(a, b) < c {
+        return Mark { place: i, bit: 1 };
+    }
+    if lower(a, b) < c {
+        return Mark { place: i, bit: 2 };
+    }
+    Mark { place: i, bit: 4 }
+}
+
+// Is ab|c entered? The three species stand in any order.
+pub fn ask(t: &[u8], a: usize, b: usize, c: usize) -> bool
+    requires { ⌜ (a < 64) × (b < 64) × (c < 64) ⌝ }
+    ensures { λ r. ⌜ r ≡ entered (now (t .entry)) a b c ⌝ }
+{
+    if a == b || a == c || b == c {
+        return false;
+    }
+    let s = spot(a, b, c);
+    let i = s.place;
+    if i < t.len() {
+        t[i] / s.bit % 2 == 1
+    } else {
+        false
+    }
+}
+
+// Enters ab|c. The three species stand in any order.
+pub fn put(t: &mut [u8], a: usize, b: usize, c: usize)
+    requires { ⌜ So (different a b c) × (a < 64) × (b < 64) × (c < 64) × (placeOf a b c < length (now t)) ⌝ }
+    ensures { λ r. ⌜ Entered (now (t .entry)) (now (t .exit)) a b c ⌝ }
+{
+    let s = spot(a, b, c);
+    let i = s.place;
+    t[i] = t[i] | s.bit;
+}

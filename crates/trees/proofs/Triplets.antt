@@ -1,0 +1,60 @@
+-- Triplets put together, one triplet alone, and three different species. Assumes nothing.
+use mathlib.Core.Bool.{So, _&&_, _||_}
+use mathlib.Core.Logic.{_≢_, _⊎_, inl, inr, ⊎-elim}
+use mathlib.Core.Path.{_∙_, _≡_, refl, sym}
+use Prim.Native.Nat.{ℕ}
+use borrow.Author.Tests.{eq-eqb, eqb-true}
+use lib.Dec.{eqb}
+use Rattle.sets.proofs.Bools.{and-i, and-l, and-r, not-e, not-i, or-case, or-l, or-r}
+use Rattle.trees.specs.Triplets.{Proper, Triplets, both, different, only}
+
+pub both-proper : (E E′ : Triplets) → Proper E → Proper E′ → Proper (both E E′)
+both-proper E E′ p q = record {
+  swap = λ a b c h. or-case (E a b c) (E′ a b c) h (λ k. or-l (E b a c) _ (p .swap a b c k)) (λ k. or-r (E b a c) _ (q .swap a b c k));
+  two = λ a b c h. or-case (E a b c) (E′ a b c) h (p .two a b c) (q .two a b c);
+  third = λ a b c h. or-case (E a b c) (E′ a b c) h (p .third a b c) (q .third a b c);
+}
+
+-- ---- one triplet
+
+pub only-e : (a b c x y z : ℕ) → So (only a b c x y z) → (z ≡ c) × (((x ≡ a) × (y ≡ b)) ⊎ ((x ≡ b) × (y ≡ a)))
+only-e a b c x y z h = (
+  eqb-true z c (and-l (eqb z c) _ h),
+  or-case (eqb x a && eqb y b) (eqb x b && eqb y a) (and-r (eqb z c) _ h)
+      (λ k. inl (eqb-true x a (and-l (eqb x a) _ k), eqb-true y b (and-r (eqb x a) _ k)))
+      (λ k. inr (eqb-true x b (and-l (eqb x b) _ k), eqb-true y a (and-r (eqb x b) _ k))),
+)
+
+pub only-i : (a b c x y z : ℕ) → z ≡ c → ((x ≡ a) × (y ≡ b)) ⊎ ((x ≡ b) × (y ≡ a)) → So (only a b c x y z)
+only-i a b c x y z e (inl p) = and-i (eqb z c) _ (eq-eqb z c e) (or-l (eqb x a && eqb y b) _ (and-i (eqb x a) _ (eq-eqb x a (p .0)) (eq-eqb y b (p .1))))
+only-i a b c x y z e (inr p) = and-i (eqb z c) _ (eq-eqb z c e) (or-r (eqb x a && eqb y b) _ (and-i (eqb x b) _ (eq-eqb x b (p .0)) (eq-eqb y a (p .1))))
+
+pub only-l : (a b c : ℕ) → So (only a b c a b c)
+only-l a b c = only-i a b c a b c refl (inl (refl, refl))
+
+pub only-r : (a b c : ℕ) → So (only a b c b a c)
+only-r a b c = only-i a b c b a c refl (inr (refl, refl))
+
+pub only-proper : (a b c : ℕ) → a ≢ b → a ≢ c → b ≢ c → Proper (only a b c)
+only-proper a b c ab ac bc = record {
+  swap = λ x y z h. ⊎-elim (λ e. rw (e .0, e .1, only-e a b c x y z h .0) (only-r a b c)) (λ e. rw (e .0, e .1, only-e a b c x y z h .0) (only-l a b c)) (only-e a b c x y z h .1);
+  two = λ x y z h q. ⊎-elim (λ e. ab (sym (e .0) ∙ q ∙ e .1)) (λ e. ab (sym (e .1) ∙ sym q ∙ e .0)) (only-e a b c x y z h .1);
+  third = λ x y z h q. let r = only-e a b c x y z h in ⊎-elim (λ e. ac (sym (e .0) ∙ q ∙ r .0)) (λ e. bc (sym (e .0) ∙ q ∙ r .0)) (r .1);
+}
+
+-- ---- three different species
+
+pub different-e : (a b c : ℕ) → So (different a b c) → (a ≢ b) × (a ≢ c) × (b ≢ c)
+different-e a b c d =
+    let n = not-e (eqb a b || (eqb a c || eqb b c)) d in (
+      λ e. n (or-l (eqb a b) _ (eq-eqb a b e)),
+      λ e. n (or-r (eqb a b) _ (or-l (eqb a c) (eqb b c) (eq-eqb a c e))),
+      λ e. n (or-r (eqb a b) _ (or-r (eqb a c) (eqb b c) (eq-eqb b c e))),
+    )
+
+pub different-i : (a b c : ℕ) → a ≢ b → a ≢ c → b ≢ c → So (different a b c)
+different-i a b c p q r = not-i (eqb a b || (eqb a c || eqb b c))
+    (λ h. or-case (eqb a b) (eqb a c || eqb b c) h (λ e. p (eqb-true a b e)) (λ k. or-case (eqb a c) (eqb b c) k (λ e. q (eqb-true a c e)) (λ e. r (eqb-true b c e))))
+
+pub different-swap : (a b c : ℕ) → So (different a b c) → So (different b a c)
+different-swap a b c d = let n = different-e a b c d in different-i b a c (λ e. n .0 (sym e)) (n .2) (n .1)
