@@ -2,6 +2,7 @@
 -- Document 01, "Species, sets, triples".
 use mathlib.Core.Bool.{Bool, true, false, not, _&&_, _||_, So}
 use mathlib.Core.List.{List, [], _∷_}
+use mathlib.Core.Logic.{_≢_}
 use Prim.Native.Nat.{ℕ, zero, suc, _≤_, _<_}
 use lib.Dec.{ltb}
 
@@ -49,3 +50,6 @@ Inside P Q = (x : ℕ) → So (P x) → So (Q x)
 
 abbrev pub Below : ℕ → Species → Type 0
 Below n S = (x : ℕ) → So (S x) → x < n
+
+abbrev pub Two : Species → Type 0
+Two S = (a : ℕ) × (b : ℕ) × So (S a) × So (S b) × (a ≢ b)

@@ -5,9 +5,6 @@ ghost use mathlib.Core.Logic.{_↔_};
 ghost use Prim.Native.Nat.{_<_, _≤_};
 ghost use Rattle.sets.specs.Sets.{has, Subset, union, meet, minus, single, upto, size, Lowest, Rest};
 
-// The number of species in a run is at most this.
-pub const MOST: usize = 64;
-
 // Is species i in s?
 pub fn has(s: u64, i: usize) -> bool
     requires { ⌜ i < 64 ⌝ }

@@ -153,9 +153,10 @@ largest-down k m i h = test (leb (C (suc m) k) i)
     (λ e. ap (λ (b : Bool). cond b (suc m) (largest k m i)) (not-true (leb (C (suc m) k) i) e))
 
 -- a search from m down: on while C(m,k) is more than i
-pub largest-pred : (k m i : ℕ) → i < C m (suc k) → (0 < m) × (largest (suc k) (m - 1) i ≡ largest (suc k) m i)
-largest-pred k zero i h = absurd (omega (arith, C-none k))
-largest-pred k (suc m) i h = let e : suc m - 1 ≡ m = omega arith in (omega arith, ap (λ (x : ℕ). largest (suc k) x i) e ∙ sym (largest-down (suc k) m i h))
+pub largest-pred : (k m i : ℕ) → 0 < k → i < C m k → (0 < m) × (largest k (m - 1) i ≡ largest k m i)
+largest-pred zero m i p h = absurd (omega arith)
+largest-pred (suc k) zero i p h = absurd (omega (arith, C-none k))
+largest-pred (suc k) (suc m) i p h = let e : suc m - 1 ≡ m = omega arith in (omega arith, ap (λ (x : ℕ). largest (suc k) x i) e ∙ sym (largest-down (suc k) m i h))
 
 -- where the number is known: x sets fit, and one more does not
 pub largest-is : (k m i x : ℕ) → x ≤ m → C x k ≤ i → i < C (suc x) k → largest k m i ≡ x

@@ -5,7 +5,7 @@ ghost use lib.ListN.{length};
 ghost use mathlib.Core.Bool.{So};
 ghost use Rattle.sets.specs.Sets.{single};
 ghost use Rattle.trees.specs.Triplets.{different};
-ghost use Rattle.tables.specs.Index.{C, index, low, mid, high, largest, highAt};
+ghost use Rattle.tables.specs.Index.{C, index, low, mid, high, largest};
 ghost use Rattle.tables.specs.Bytes.{fits, over, placeOf, bitOf, entered, Byte, Entered};
 ghost use Rattle.tables.specs.Named.{named};
 
@@ -61,23 +61,25 @@ pub fn index(a: usize, b: usize, c: usize) -> usize
     c * (c - 1) * (c - 2) / 6 + b * (b - 1) / 2 + a
 }
 
-// The highest species of the triple with index i.
-fn high_at(i: usize) -> usize
-    ensures { λ r. ⌜ r ≡ highAt 64 i ⌝ }
+// C(n,k), for k = 2 and 3.
+fn combinations(n: usize, k: usize) -> usize
+    requires { ⌜ (n ≤ 64) × (2 ≤ k) × (k ≤ 3) ⌝ }
+    ensures { λ r. ⌜ r ≡ C n k ⌝ }
 {
-    let mut m = 64;
-    while room(m) > i {
-        m -= 1;
+    if k == 3 {
+        return room(n);
     }
-    m
+    pairs(n)
 }
 
-// The middle species, where i is the index less what the highest one adds to it.
-fn mid_at(i: usize) -> usize
-    ensures { λ r. ⌜ r ≡ largest 2 64 i ⌝ }
+// The largest number with at most i sets of k: the highest species of the triple with index i for k = 3, and for k = 2 the middle one, where i is
+// the index less what the highest one adds to it.
+fn largest(k: usize, i: usize) -> usize
+    requires { ⌜ (2 ≤ k) × (k ≤ 3) ⌝ }
+    ensures { λ r. ⌜ r ≡ largest k 64 i ⌝ }
 {
     let mut m = 64;
-    while pairs(m) > i {
+    while combinations(m, k) > i {
         m -= 1;
     }
     m
@@ -90,9 +92,9 @@ pub fn triple_at(i: usize) -> Named
     if i >= room(64) {
         return Named::Beyond;
     }
-    let high = high_at(i);
+    let high = largest(3, i);
     let rest = i - room(high);
-    let mid = mid_at(rest);
+    let mid = largest(2, rest);
     Named::Known(Triple {
         low: rest - pairs(mid),
         mid: mid,

@@ -29,7 +29,7 @@ exclusive T w a b c h k =
     let uc : So (U c) = or-r (eqb a c) _ (or-r (eqb b c) _ (eq-eqb c c refl)) in
     let all : (Q : Species) → So (Q a) → So (Q b) → So (Q c) → Inside U Q = λ Q qa qb qc x hx. or-case (eqb a x) _ hx
     (λ e. rw (← (eqb-true a x e)) qa) (λ r. or-case (eqb b x) (eqb c x) r (λ e. rw (← (eqb-true b x e)) qb) (λ e. rw (← (eqb-true c x e)) qc)) in
-    refused (holds T) U a b ua ub (o .ab)
+    refused (holds T) U (a, b, ua, ub, o .ab)
     (λ X cl u hu xu x hx.
     let xa : So (X a) = test (X a) (λ q. q) (λ q. absurd (not-e (X u) (all (λ z. not (X z)) q
     (not-i (X b) (λ r. not-e (X a) q (cl b a c r ub ua uc (holds-swap T a b c h))))

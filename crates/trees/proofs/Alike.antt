@@ -50,10 +50,6 @@ module _ (E : Triplets) (pr : Proper E) (N : ℕ) (T : Tree) (w : Formed T) (bd 
           join = pair-joins (R E T) N rp U ubd b c ub uc a ua (λ x hx. or-case (part (R E T) N U a x) (part (R E T) N U c x) (all x hx)
               (λ q. or-l (part (R E T) N U b x) _ (part-trans (R E T) N U ubd rp b a x ua (part-sym (R E T) N U ubd rp a b same) q))
               (λ q. or-r (part (R E T) N U b x) _ q));
-          some = blk .some;
-          other = blk .other;
-          has-some = blk .has-some;
-          has-other = blk .has-other;
           two = blk .two;
         })
 

@@ -53,11 +53,7 @@ module _ (E : Triplets) (N : ℕ) (pr : Proper E) (S : Species) (bd : Below N S)
       pair-bars all = no-tree _ S S (record {
         inside = λ x h. h;
         join = pair-joins all;
-        some = a;
-        other = c;
-        has-some = ha;
-        has-other = hc;
-        two = ac;
+        two = (a, c, ha, hc, ac);
       })
 
       module _ (ab : a ≢ b) (bc : b ≢ c) where
@@ -79,10 +75,6 @@ module _ (E : Triplets) (N : ℕ) (pr : Proper E) (S : Species) (bd : Below N S)
                 (λ s. let ua : So (U a) = rw (s .0) at hx in let uc : So (U c) = rw (s .1) at hy in and-i (U a) _ ua (and-i (U b) _ ub uc))
                 (λ s. let ua : So (U a) = rw (s .1) at hy in let uc : So (U c) = rw (s .0) at hx in and-i (U a) _ ua (and-i (U b) _ ub uc))
                 (i .1)))));
-            some = w .some;
-            other = w .other;
-            has-some = w .has-some;
-            has-other = w .has-other;
             two = w .two;
           }) held))
 

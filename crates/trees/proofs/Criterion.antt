@@ -19,7 +19,7 @@ use Rattle.trees.specs.Trees.{Tree}
 use Rattle.trees.specs.Triplets.{Proper, Triplets}
 
 pub no-tree : (E : Triplets) (S U : Species) → Stopping E S U → CanBeHeld E S → ⊥
-no-tree E S U b (t, k) = refused E U (b .some) (b .other) (b .has-some) (b .has-other) (b .two) (b .join) t (formed-e t (k .formed))
+no-tree E S U b (t, k) = refused E U (b .two) (b .join) t (formed-e t (k .formed))
     (λ x h. rw (k .species x) (b .inside x h))
     (λ x y z hx hy hz e. k .keeps x y z (b .inside x hx) (b .inside y hy) (b .inside z hz) e)
 
@@ -53,10 +53,6 @@ pub stopping-up : (E : Triplets) (S S′ U : Species) → Inside U S′ → Stop
 stopping-up E S S′ U sub b = record {
   inside = sub;
   join = b .join;
-  some = b .some;
-  other = b .other;
-  has-some = b .has-some;
-  has-other = b .has-other;
   two = b .two;
 }
 
@@ -68,9 +64,9 @@ pub held-around : (E : Triplets) (N : ℕ) → Proper E → (S S′ : Species) �
     → ((a b c : ℕ) → So (S′ a) → So (S′ b) → So (S′ c) → So (E a b c) → So (S a) × So (S b)) → CanBeHeld E S → CanBeHeld E S′
 held-around E N pr S S′ bd sub u hu inn f = aho E N pr S′ bd u (sub u hu) .1 (λ U b.
     let pair : (x y z : ℕ) → So (U x) → So (U y) → So (U z) → So (E x y z) → So (S x) × So (S y) = λ x y z hx hy hz e. inn x y z (b .inside x hx) (b .inside y hy) (b .inside z hz) e in
-    let v = b .some in
+    let (v, w, hv, hw, ne) = b .two in
     test (S v)
-    (λ h. no-tree E S U (stopping-up E S′ S U (b .join S (λ x y z p hx hy hz e. pair x y z hx hy hz e .1) v (b .has-some) h) b) f)
-    (λ h. b .two (eqb-true v (b .other) (b .join (eqb v)
+    (λ h. no-tree E S U (stopping-up E S′ S U (b .join S (λ x y z p hx hy hz e. pair x y z hx hy hz e .1) v hv h) b) f)
+    (λ h. ne (eqb-true v w (b .join (eqb v)
     (λ x y z p hx hy hz e. absurd (not-e (S v) h (rw (eqb-true v x p) (pair x y z hx hy hz e .0))))
-    v (b .has-some) (eq-eqb v v refl) (b .other) (b .has-other)))))
+    v hv (eq-eqb v v refl) w hw))))

@@ -10,7 +10,7 @@ use lib.Dec.{eqb}
 use lib.ListN.{getD, length}
 use Rattle.sets.proofs.Bools.{and-i, and-l, and-r, not-e, not-i, or-case}
 use Rattle.sets.proofs.Members.{any-e, members-head, members-lt, members-two}
-use Rattle.sets.specs.Species.{Below, Inside, Species, members}
+use Rattle.sets.specs.Species.{Below, Inside, Species, Two, members}
 use Rattle.trees.proofs.Outcomes.{anyOf-length, length-lone, lone-length, many}
 use Rattle.trees.proofs.Parts.{part-closed, part-refl, parts-cover, parts-one, parts-whole}
 use Rattle.trees.proofs.Stopping.{Stopping, two-species}
@@ -67,13 +67,13 @@ three N S bd a b c ha hb hc ab ac bc =
 
 -- a joined set with two species has a third: a link needs one
 pub stopping-three : (E : Triplets) (N : ℕ) → Proper E → (S U : Species) → Below N U → Stopping E S U → 3 ≤ length (members N U)
-stopping-three E N pr S U bd b = go (joined-walks E U N pr bd (b .join) (b .some) (b .other) (b .has-some) (b .has-other)) (b .two)
+stopping-three E N pr S U bd b = let (u, v, hu, hv, ne) = b .two in go (joined-walks E U N pr bd (b .join) u v hu hv) ne
   where
     go : {x y : ℕ} → Walk E U x y → x ≢ y → 3 ≤ length (members N U)
     go (stay z) n = absurd (n refl)
     go (via x y z hx hy hz e w) n = three N U bd x y z hx hy hz (pr .two x y z e) (pr .third x y z e) (pr .third y x z (pr .swap x y z e))
 
-pub two-members : (N : ℕ) (U : Species) → Below N U → 2 ≤ length (members N U) → (a : ℕ) × (b : ℕ) × So (U a) × So (U b) × (a ≢ b)
+pub two-members : (N : ℕ) (U : Species) → Below N U → 2 ≤ length (members N U) → Two U
 two-members N U bd h =
     let a = getD (members N U) 0 0 in
     let ha : So (U a) = members-head N U (omega arith) in

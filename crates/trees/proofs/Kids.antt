@@ -1,11 +1,11 @@
 -- The children of a node: each lies in its forest, splits what the forest splits of its species, and lacks a species of it. Assumes nothing.
 use mathlib.Core.Bool.{So, false≢true, not}
-use mathlib.Core.Logic.{_≢_, _⊎_, inl, inr, ⊎-elim}
+use mathlib.Core.Logic.{_⊎_, inl, inr, ⊎-elim}
 use mathlib.Core.Path.{_∙_, _≡_, refl, subst, sym}
 use Prim.Native.Nat.{_≤_, ℕ}
 use native.Mathlib.Omega.{arith}
 use Rattle.sets.proofs.Bools.{not-i, or-case, or-l, or-r}
-use Rattle.sets.specs.Species.{Inside}
+use Rattle.sets.specs.Species.{Inside, Two}
 use Rattle.trees.proofs.Formed.{Formed, FormedF}
 use Rattle.trees.proofs.Lowest.{some-species, some-speciesF}
 use Rattle.trees.proofs.Splits.{splits, splits-in, splitsF, splitsF-in}
@@ -65,7 +65,7 @@ omits (cons t f) w le =
           f (kids f (w .2)),
     )
 
-pub two-under : (f : Forest) → FormedF f → 2 ≤ degree f → (a : ℕ) × (b : ℕ) × So (underF f a) × So (underF f b) × (a ≢ b)
+pub two-under : (f : Forest) → FormedF f → 2 ≤ degree f → Two (underF f)
 two-under nil w le = absurd (omega arith)
 two-under (cons t f) w le =
     let x = some-species t (w .0) in

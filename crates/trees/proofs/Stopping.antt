@@ -10,7 +10,7 @@ use lib.Dec.{eqb}
 use lib.ListN.{getD, length}
 use Rattle.sets.proofs.Bools.{and-l, and-r, bool-ext, ne-e, test}
 use Rattle.sets.proofs.Members.{any-e, inside-e, members-bound, members-lt, members-one, members-uniq}
-use Rattle.sets.specs.Species.{Below, Inside, Species, any, members}
+use Rattle.sets.specs.Species.{Below, Inside, Species, Two, any, members}
 use Rattle.trees.proofs.Outcomes.{anyOf-length, choose-same, choose-stop, gather-same, gather-stop, lone-length, not-lone}
 use Rattle.trees.proofs.Parts.{part-in, part-least, part-refl, parts-cover, parts-every, parts-one, parts-whole}
 use Rattle.trees.specs.Build.{build, buildIn, choose, gather, stop}
@@ -21,11 +21,7 @@ use Rattle.trees.specs.Triplets.{Proper, Triplets}
 pub record Stopping (E : Triplets) (S U : Species) : Type 0 where
   pub inside : Inside U S
   pub join : Joined E U
-  pub some : ℕ
-  pub other : ℕ
-  pub has-some : So (U some)
-  pub has-other : So (U other)
-  pub two : some ≢ other
+  pub two : Two U
 
 pub two-species : (N : ℕ) (S : Species) → Below N S → (u : ℕ) → So (S u) → So (not (lone (members N S))) → (v : ℕ) × So (S v) × (u ≢ v)
 two-species N S bd u hu h = test (any N (λ v. S v && not (eqb u v)))
@@ -59,11 +55,7 @@ module _ (E : Triplets) (N : ℕ) (pr : Proper E) where
       (λ h. let v = two-species N S bd u hu (h .0) in rw (h .2) (record {
         inside = λ x p. p;
         join = parts-one E N S bd pr (omega (arith, lone-length (parts E N S) (h .1)));
-        some = u;
-        other = v .0;
-        has-some = hu;
-        has-other = v .1;
-        two = v .2;
+        two = (u, v .0, hu, v .1, v .2);
       }))
       (λ h. gather-stop (λ p. buildIn E N k p) (Stopping E S) (parts E N S)
       (parts-every E N S bd pr (λ p. (U : Species) → buildIn E N k p ≡ stop U → Stopping E S U)
@@ -71,10 +63,6 @@ module _ (E : Triplets) (N : ℕ) (pr : Proper E) where
       record {
         inside = λ x q. part-in E N S bd pr j x hj (r .inside x q);
         join = r .join;
-        some = r .some;
-        other = r .other;
-        has-some = r .has-some;
-        has-other = r .has-other;
         two = r .two;
       }))
       U (h .2))

@@ -40,16 +40,7 @@ closed-walks E pr N U bd = (joined-walks E U N pr bd, walks-joined E U)
 joined-stops : (E : Triplets) → Proper E → (N : ℕ) (S U : Species) → Below N S → Inside U S → 2 ≤ length (members N U) → So (joined E N U) → Stopping E S U
 joined-stops E pr N S U bd sub two j =
     let ubd : Below N U = λ x h. bd x (sub x h) in
-    let w = two-members N U ubd two in
-    record {
-      inside = sub;
-      join = joined-e E N pr U ubd j;
-      some = w .0;
-      other = w .1;
-      has-some = w .2;
-      has-other = w .3;
-      two = w .4;
-    }
+    record { inside = sub; join = joined-e E N pr U ubd j; two = two-members N U ubd two }
 
 -- A set of two or more species that its links join is held by no tree, nor is any set that it lies in.
 pub joined-not-held : (E : Triplets) → Proper E → (N : ℕ) (S U : Species) → Below N S → Inside U S → 2 ≤ length (members N U) → So (joined E N U) → CanBeHeld E S → ⊥
@@ -74,7 +65,7 @@ module _ (E : Triplets) (pr : Proper E) (N : ℕ) (S : Species) (bd : Below N S)
       record {
         inside = r .inside;
         three = stopping-three E N pr S U ubd r;
-        one-part = joined-i E N pr U ubd (r .some) (r .has-some) (r .join);
+        one-part = joined-i E N pr U ubd (r .two .0) (r .two .2) (r .join);
         closed = r .join;
         walks = joined-walks E U N pr ubd (r .join);
       }
@@ -104,7 +95,7 @@ module _ (E : Triplets) (pr : Proper E) (N : ℕ) (S : Species) (bd : Below N S)
   criterion = (
     (λ h U sub two j. joined-not-held E pr N S U bd sub two j h),
     λ h. aho E N pr S bd u hu .1 (λ U b. let ubd : Below N U = λ x q. bd x (b .inside x q) in
-        h U (b .inside) (members-two N U ubd (b .some) (b .other) (b .has-some) (b .has-other) (b .two)) (joined-i E N pr U ubd (b .some) (b .has-some) (b .join))),
+        let (v, w, hv, hw, ne) = b .two in h U (b .inside) (members-two N U ubd v w hv hw ne) (joined-i E N pr U ubd v hv (b .join))),
   )
 
 -- ---- listing and rebuilding

@@ -17,27 +17,31 @@ returns c =
     let i = c .before .before .args .i in
     sym (named-beyond i (subst (λ (x : ℕ). x ≤ i) (c .before .room .ensures) (c .if1 .taken)))
 
-high-at-requires : tie.Need-high-at-requires
-high-at-requires c κs = search needs
+largest-requires : tie.Need-largest-requires
+largest-requires c κs = search needs
 
 -- there is such a triple
 inside : (c : tie.Else1) → c .before .before .args .i < C 64 3
 inside c = subst (λ (x : ℕ). c .before .before .args .i < x) (c .before .room .ensures) (c .if1 .left)
 
+highest : (c : tie.After-largest) → c .largest .result ≡ highAt 64 (c .before .before .before .args .i)
+unfolding highAt
+highest c = c .largest .ensures
+
 room-requires-2 : tie.Need-room-requires-2
 room-requires-2 c κs =
     let i = c .before .before .before .args .i in
-    omega (arith, triple-back 64 i (inside (c .before)) .2, c .high-at .ensures)
+    omega (arith, triple-back 64 i (inside (c .before)) .2, highest c)
 
 -- what the highest species adds to the index, and what the middle one adds
 added : (c : tie.After-room2) → c .room2 .result ≡ C (highAt 64 (c .before .before .before .before .args .i)) 3
-added c = c .room2 .ensures ∙ ap (λ (h : ℕ). C h 3) (c .before .high-at .ensures)
+added c = c .room2 .ensures ∙ ap (λ (h : ℕ). C h 3) (highest (c .before))
 
-middle : (c : tie.After-mid-at) → c .mid-at .result ≡ midAt 64 (c .before .before .before .before .before .args .i)
+middle : (c : tie.After-largest2) → c .largest2 .result ≡ midAt 64 (c .before .before .before .before .before .args .i)
 unfolding midAt
 middle c =
     let i = c .before .before .before .before .before .args .i in
-    c .mid-at .ensures ∙ ap (λ (r : ℕ). largest 2 64 (i - r)) (added (c .before))
+    c .largest2 .ensures ∙ ap (λ (r : ℕ). largest 2 64 (i - r)) (added (c .before))
 
 also : (c : tie.After-pairs) → c .pairs .result ≡ C (midAt 64 (c .before .before .before .before .before .before .args .i)) 2
 also c = c .pairs .ensures ∙ ap (λ (m : ℕ). C m 2) (middle (c .before))
@@ -48,8 +52,8 @@ sub-rest c =
     let i = c .before .before .before .before .args .i in
     omega (arith, triple-back 64 i (inside (c .before .before)) .3, added c)
 
-mid-at-requires : tie.Need-mid-at-requires
-mid-at-requires c κs = search needs
+largest-requires-2 : tie.Need-largest-requires-2
+largest-requires-2 c κs = search needs
 
 pairs-requires : tie.Need-pairs-requires
 pairs-requires c κs =
@@ -67,7 +71,7 @@ unfolding lowAt
 returns-2 c =
     let i = c .before .before .before .before .before .before .args .i in
     sym (named-as i _ _ _ (inside (c .before .before .before .before))
-    (sym (ap₂ (λ (x y : ℕ). i - x - y) (added (c .before .before)) (also c))) (sym (middle (c .before))) (sym (c .before .before .before .high-at .ensures)))
+    (sym (ap₂ (λ (x y : ℕ). i - x - y) (added (c .before .before)) (also c))) (sym (middle (c .before))) (sym (highest (c .before .before .before))))
 
 pub triple-at-spec : {M : Type 1} → statement M
 triple-at-spec =
@@ -75,10 +79,10 @@ triple-at-spec =
     (tie.spec
     room-requires
     returns
-    high-at-requires
+    largest-requires
     room-requires-2
     sub-rest
-    mid-at-requires
+    largest-requires-2
     pairs-requires
     sub-t7
     returns-2)
