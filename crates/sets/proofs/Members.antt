@@ -5,11 +5,11 @@ use mathlib.Core.Logic.{_≢_, _⊎_, inl, inr, ⊎-elim}
 use mathlib.Core.Path.{_≡_, ap, ap₂, refl, subst, sym}
 use Prim.Native.Nat.{_+_, _<_, _≤_, suc, zero, ℕ}
 use native.Mathlib.Omega.{arith}
-use borrow.Author.Tests.{eqb-true, not-true}
+use borrow.Author.Tests.{eqb-true, ltb-true, not-true}
 use lib.Dec.{eqb}
 use lib.ListN.{getD, length}
 use Rattle.sets.proofs.Bools.{and-i, and-l, and-r, by-order, lt-of-ne, ne-e, not-e, not-i, or-case, or-l, or-r, test}
-use Rattle.sets.specs.Species.{Below, Inside, Species, any, from, inside, members, put}
+use Rattle.sets.specs.Species.{Below, Inside, Species, any, below, from, inside, members, put}
 
 pub any-i : (n : ℕ) (P : Species) (i : ℕ) → i < n → So (P i) → So (any n P)
 any-i zero P i h p = absurd (omega arith)
@@ -29,6 +29,10 @@ least-of zero P h = absurd (false≢true h)
 least-of (suc n) P h = test (any n P)
     (λ k. let r = least-of n P k in (r .0, omega (arith, r .1), r .2, r .3))
     (λ k. (n, omega arith, or-case (P n) (any n P) h (λ p. p) (λ p. absurd (not-e (any n P) k p)), k))
+
+-- all species below n
+pub all-below : (n : ℕ) → Below n (below n)
+all-below n x h = ltb-true x n h
 
 pub inside-e : (n : ℕ) (P Q : Species) → Below n P → So (inside n P Q) → Inside P Q
 inside-e n P Q bd h x p = test (Q x) (λ q. q) (λ q. absurd (not-e _ h (any-i n (λ z. P z && not (Q z)) x (bd x p) (and-i (P x) _ p q))))

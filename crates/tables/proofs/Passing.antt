@@ -5,10 +5,11 @@ use mathlib.Core.Logic.{_↔_}
 use mathlib.Core.Path.{_≡_, refl}
 use Prim.Native.Nat.{_<_, _≤_, ℕ}
 use native.Mathlib.Omega.{arith}
-use borrow.Author.Tests.{le-ltb, ltb-false, ltb-true}
+use borrow.Author.Tests.{le-ltb, ltb-false}
 use lib.Dec.{ltb}
 use lib.ListN.{getD}
-use Rattle.sets.specs.Species.{Below, Inside, below}
+use Rattle.sets.proofs.Members.{all-below}
+use Rattle.sets.specs.Species.{Inside, below}
 use Rattle.trees.proofs.Theorems.{pc-exactly, pi-exactly}
 use Rattle.trees.proofs.Triples.{differs-in, differs-proper, nowhere-e, nowhere-i, unsure-in, unsure-proper}
 use Rattle.trees.specs.Check.{PC, PI, differs, unsure}
@@ -39,18 +40,15 @@ module _ (n : ℕ) (t : List ℕ) (T : Tree) (f : So (wellFormed T)) (sub : Insi
   abbrev E : Triplets
   E = entered t
 
-  below-n : Below n (below n)
-  below-n x h = ltb-true x n h
-
   three : (a b c : ℕ) → So (under T a) × So (under T b) × So (under T c) → (a < n) × (b < n) × (c < n)
-  three a b c i = (below-n a (sub a (i .0)), below-n b (sub b (i .1)), below-n c (sub c (i .2)))
+  three a b c i = (all-below n a (sub a (i .0)), all-below n b (sub b (i .1)), all-below n c (sub c (i .2)))
 
   pc-first : PC E (below n) T ↔ (C n 3 ≤ firstDiffers n t T)
   unfolding firstDiffers
   pc-first =
       let P = differs E T in
       let pr = entered-proper t in
-      let k = pc-exactly E pr n (below n) below-n T f sub in (
+      let k = pc-exactly E pr n (below n) (all-below n) T f sub in (
         (λ pc. let e = first-none n P .1 (nowhere-i n P (k .0 pc)) in omega arith),
         λ l. k .1 (nowhere-e n P (differs-proper E pr T) (λ a b c h. three a b c (differs-in E pr T a b c h)) (first-none n P .0 (omega (arith, first-le n P)))),
       )
@@ -59,7 +57,7 @@ module _ (n : ℕ) (t : List ℕ) (T : Tree) (f : So (wellFormed T)) (sub : Insi
   unfolding firstUnsure
   pi-first pc =
       let P = unsure E n T in
-      let k = pi-exactly E (entered-proper t) n (below n) below-n T f sub pc in (
+      let k = pi-exactly E (entered-proper t) n (below n) (all-below n) T f sub pc in (
         (λ pi. let e = first-none n P .1 (nowhere-i n P (k .0 pi)) in omega arith),
         λ l. k .1 (nowhere-e n P (unsure-proper E n T) (λ a b c h. three a b c (unsure-in E n T a b c h)) (first-none n P .0 (omega (arith, first-le n P)))),
       )

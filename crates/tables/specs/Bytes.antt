@@ -1,5 +1,5 @@
--- The table of entered triplets. Document 01, "Species, sets, triples": "A triplet table has exactly C(n,3) bytes. In a byte, 1 stands for ab|c,
--- 2 for ac|b, 4 for bc|a, added together; 0 says nothing. More than one bit means that sources disagree."
+-- The table of entered triplets. Document 01, "Species, sets, triples": "A triplet table has exactly C(n,3) bytes"; "In a byte, 1 stands for
+-- ab|c, 2 for ac|b, 4 for bc|a, added together; 0 says nothing. More than one bit means that sources disagree."
 use mathlib.Core.Path.{_≡_}
 use mathlib.Core.Logic.{_≢_}
 use mathlib.Core.Bool.{Bool, cond, _&&_, _||_}

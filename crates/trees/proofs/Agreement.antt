@@ -13,7 +13,7 @@ use Rattle.trees.proofs.Formed.{Formed, formed-e, formed-i}
 use Rattle.trees.proofs.Lowest.{some-species}
 use Rattle.trees.proofs.Refused.{refused}
 use Rattle.trees.proofs.Splits.{holds-e, holds-proper, holds-swap}
-use Rattle.trees.proofs.Triplets.{both-proper, only-e, only-proper}
+use Rattle.trees.proofs.Triplets.{both-proper, on-swap, only-e, only-proper}
 use Rattle.trees.specs.Check.{PC, R}
 use Rattle.trees.specs.Held.{CanBeHeld}
 use Rattle.trees.specs.Trees.{Tree, under}
@@ -44,9 +44,7 @@ Agrees E T = (a b c : ℕ) → So (R E T a b c) → So (holds T a b c)
 module _ (E : Triplets) (pr : Proper E) (T : Tree) where
   pub R-proper : Proper (R E T)
   R-proper = record {
-    swap = λ a b c h. and-i (E b a c) _ (pr .swap a b c (and-l (E a b c) _ h)) (or-case (holds T a b c) _ (and-r (E a b c) _ h)
-        (λ k. or-l (holds T b a c) _ (holds-swap T a b c k))
-        (λ k. or-r (holds T b a c) _ (or-case (holds T a c b) (holds T b c a) k (λ q. or-r (holds T b c a) _ q) (λ q. or-l (holds T b c a) _ q))));
+    swap = λ a b c h. and-i (E b a c) _ (pr .swap a b c (and-l (E a b c) _ h)) (on-swap (holds T) (holds-swap T) a b c (and-r (E a b c) _ h));
     two = λ a b c h. pr .two a b c (and-l (E a b c) _ h);
     third = λ a b c h. pr .third a b c (and-l (E a b c) _ h);
   }

@@ -1,11 +1,11 @@
 -- The theorems of building and of the check, each to be read alone. E: the entered triplets; S: a set of species, in the base all n (`below n`);
 -- N: a number that they are below; u: one of them. The definitions stand in `specs/`. Assumes nothing.
-use mathlib.Core.Bool.{So}
+use mathlib.Core.Bool.{So, _&&_}
 use mathlib.Core.Logic.{Iff·rfl, Iff·symm, Iff·trans, _↔_}
 use mathlib.Core.Path.{_∙_, _≡_, fun-ext, refl, sym}
 use Prim.Native.Nat.{_≤_, ℕ}
 use lib.ListN.{length}
-use Rattle.sets.proofs.Bools.{and-i, and-l, and-r, bool-ext, not-e, test}
+use Rattle.sets.proofs.Bools.{and-i, and-l, and-r, bool-ext, not-e, or-case, test}
 use Rattle.sets.proofs.Members.{members-two}
 use Rattle.sets.specs.Species.{Below, Inside, Species, members}
 use Rattle.trees.proofs.Agreement.{Agrees, agrees-pc, pc-agrees}
@@ -20,13 +20,14 @@ use Rattle.trees.proofs.Joins.{joined-e, joined-i, joined-walks, stoppi
 use Rattle.trees.proofs.Lowest.{housed-e, housed-i}
 use Rattle.trees.proofs.Splits.{holds-swap}
 use Rattle.trees.proofs.Stopping.{Stopping, stopping}
+use Rattle.trees.proofs.Triplets.{on-swap, on-turn}
 use Rattle.trees.proofs.Unique.{house-same, rebuilt-house, same-groups, same-house}
 use Rattle.trees.specs.Build.{Outcome, build, stop, tree}
 use Rattle.trees.specs.Check.{Forced, PC, PI, R, core, differs, sure, unsure}
 use Rattle.trees.specs.Held.{CanBeHeld, HeldBy}
 use Rattle.trees.specs.Links.{Joined, JoinedByWalks, joined}
 use Rattle.trees.specs.Trees.{SameGroups, Tree, house, inHouseOrder, under, wellFormed}
-use Rattle.trees.specs.Triplets.{Proper, Triplets, holds}
+use Rattle.trees.specs.Triplets.{Proper, Triplets, different, fan, holds, onTriple, resolves}
 
 -- ---- joined sets
 
@@ -141,6 +142,18 @@ module _ (t t′ : Tree) (f : So (wellFormed t)) (f′ : So (wellFormed t′)) w
       sym (house-same t w (housed-e t w h)) ∙ known-by-house .0 s ∙ house-same t′ w′ (housed-e t′ w′ h′)
 
 -- ---- the check
+
+-- A fan gives no triplet and contradicts none.
+pub fan-silent : (E : Triplets) (T : Tree) (a b c : ℕ) → So (fan T a b c) → (So (onTriple (holds T) a b c) → ⊥) × (So (onTriple (differs E T) a b c) → ⊥)
+fan-silent E T a b c h =
+    let n = not-e (resolves T a b c) (and-r (different a b c) _ (and-r (under T a && (under T b && under T c)) _ h)) in
+    let r : (x y z : ℕ) → So (differs E T x y z) → So (resolves T x y z) = λ x y z k. and-r (E x y z) _ (and-l (R E T x y z) _ k) in
+    let sw = on-swap (holds T) (holds-swap T) in
+    let tu = on-turn (holds T) (holds-swap T) in (
+      n,
+      λ k. n (or-case (differs E T a b c) _ k (r a b c) (λ j. or-case (differs E T a c b) (differs E T b c a) j
+          (λ i. tu a c b (r a c b i)) (λ i. sw b a c (tu b c a (r b c a i))))),
+    )
 
 module _ (E : Triplets) (pr : Proper E) (N : ℕ) (S : Species) (bd : Below N S) (T : Tree) (f : So (wellFormed T)) (sub : Inside (under T) S) where
   -- PC holds exactly when no entered triplet differs from what T holds on a triple that it resolves.

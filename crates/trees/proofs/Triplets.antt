@@ -6,7 +6,7 @@ use Prim.Native.Nat.{ℕ}
 use borrow.Author.Tests.{eq-eqb, eqb-true}
 use lib.Dec.{eqb}
 use Rattle.sets.proofs.Bools.{and-i, and-l, and-r, not-e, not-i, or-case, or-l, or-r}
-use Rattle.trees.specs.Triplets.{Proper, Triplets, both, different, only}
+use Rattle.trees.specs.Triplets.{Proper, Triplets, both, different, onTriple, only}
 
 pub both-proper : (E E′ : Triplets) → Proper E → Proper E′ → Proper (both E E′)
 both-proper E E′ p q = record {
@@ -58,3 +58,16 @@ different-i a b c p q r = not-i (eqb a b || (eqb a c || eqb b c))
 
 pub different-swap : (a b c : ℕ) → So (different a b c) → So (different b a c)
 different-swap a b c d = let n = different-e a b c d in different-i b a c (λ e. n .0 (sym e)) (n .2) (n .1)
+
+-- ---- one of the three triplets on a triple, in any order of its species
+
+module _ (P : Triplets) (swap : (a b c : ℕ) → So (P a b c) → So (P b a c)) where
+  pub on-swap : (a b c : ℕ) → So (onTriple P a b c) → So (onTriple P b a c)
+  on-swap a b c h = or-case (P a b c) _ h
+      (λ k. or-l (P b a c) _ (swap a b c k))
+      (λ k. or-r (P b a c) _ (or-case (P a c b) (P b c a) k (or-r (P b c a) _) (or-l (P b c a) _)))
+
+  pub on-turn : (a b c : ℕ) → So (onTriple P a b c) → So (onTriple P a c b)
+  on-turn a b c h = or-case (P a b c) _ h
+      (λ k. or-r (P a c b) _ (or-l (P a b c) _ k))
+      (λ k. or-case (P a c b) (P b c a) k (or-l (P a c b) _) (λ j. or-r (P a c b) _ (or-r (P a b c) _ (swap b c a j))))

@@ -1,6 +1,6 @@
 -- The build. Document 01, "Triplets, links, building": "To build S: one species is a leaf. With two or more, take the connected parts. If there is
--- one part, stop with no tree; otherwise each part becomes a child, by lowest species, and each part is then split again by the same rule. The
--- refusal names the first set that stops, in preorder." Aho, Sagiv, Szymanski and Ullman (1981); source 000, l.194.
+-- one part, stop with no tree; otherwise each part becomes a child, by lowest species, and each part is then split again by the same
+-- rule." "The refusal names the first set that stops, in preorder." Aho, Sagiv, Szymanski and Ullman (1981); source 000, l.194.
 use mathlib.Core.Bool.{Bool, true, false}
 use mathlib.Core.List.{List, [], _∷_}
 use Prim.Native.Nat.{ℕ, zero, suc}

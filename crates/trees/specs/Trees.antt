@@ -1,5 +1,5 @@
 -- Rooted trees and their groups. Document 01, "A tree's body and the collection"; source 000, l.65.
-use mathlib.Core.Bool.{Bool, true, false, not, _&&_, _||_}
+use mathlib.Core.Bool.{Bool, true, false, cond, not, _&&_, _||_}
 use mathlib.Core.List.{List, [], _∷_, _++_, List·Memᴰ}
 use mathlib.Core.Logic.{_↔_}
 use Prim.Native.Nat.{ℕ, suc, min}
@@ -64,7 +64,7 @@ abbrev pub distinct : List ℕ → Bool
 distinct [] = true
 distinct (x ∷ l) = not (elem x l) && distinct l
 
--- "A node with children has at least two children."
+-- "A node with children has [..] at least two children."
 abbrev mutual
   pub branching : Tree → Bool
   branching (leaf x) = true
@@ -104,14 +104,10 @@ abbrev mutual
   inHouseOrderF nil = true
   inHouseOrderF (cons t f) = inHouseOrder t && (before t f && inHouseOrderF f)
 
--- the tree put in house order: each child is placed before the first one with a higher lowest species
-abbrev pub ahead : Bool → Tree → Forest → Forest → Forest
-ahead true t f g = cons t f
-ahead false t f g = g
-
+-- the tree put in house order: each child hangs before the first one with a higher lowest species
 abbrev pub hang : Tree → Forest → Forest
 hang t nil = cons t nil
-hang t (cons u f) = ahead (ltb (lowest t) (lowest u)) t (cons u f) (cons u (hang t f))
+hang t (cons u f) = cond (ltb (lowest t) (lowest u)) (cons t (cons u f)) (cons u (hang t f))
 
 abbrev mutual
   pub house : Tree → Tree
