@@ -22,7 +22,7 @@ put-ascend true i l a = (le-refl i, a)
 put-ascend false i [] a = tt
 put-ascend false i (x ∷ l) a = (omega arith, a .1)
 
-from-ascend : (S : Species) (n i : ℕ) → Ascending i (from i n S)
+pub from-ascend : (S : Species) (n i : ℕ) → Ascending i (from i n S)
 from-ascend S zero i = tt
 from-ascend S (suc n) i = put-ascend (S i) i (from (suc i) n S) (from-ascend S n (suc i))
 
@@ -36,7 +36,7 @@ of-put : (b : Bool) (i : ℕ) (l : List ℕ) (x : ℕ) → List·Memᴰ x (put b
 of-put true i l x m = ⊎-elim (λ e. inl (e, refl)) (λ k. inr k) (List·Memᴰ·cases-cons m)
 of-put false i l x m = inr m
 
-of-from : (S : Species) (x n i : ℕ) → List·Memᴰ x (from i n S) → (i ≤ x) × (x < i + n) × So (S x)
+pub of-from : (S : Species) (x n i : ℕ) → List·Memᴰ x (from i n S) → (i ≤ x) × (x < i + n) × So (S x)
 of-from S x zero i m = absurd (List·Memᴰ·not-nil m)
 of-from S x (suc n) i m = ⊎-elim
     (λ p. (omega (arith, p .0), omega (arith, p .0), subst (λ (k : ℕ). So (S k)) (sym (p .0)) (p .1)))
@@ -51,7 +51,7 @@ put-later : (b : Bool) (i : ℕ) (l : List ℕ) (x : ℕ) → List·Memᴰ x l �
 put-later true i l x m = List·Memᴰ·tail m
 put-later false i l x m = m
 
-in-from : (S : Species) (x n i : ℕ) → i ≤ x → x < i + n → So (S x) → List·Memᴰ x (from i n S)
+pub in-from : (S : Species) (x n i : ℕ) → i ≤ x → x < i + n → So (S x) → List·Memᴰ x (from i n S)
 in-from S x zero i le lt h = absurd (omega arith)
 in-from S x (suc n) i le lt h = go (ℕ-discrete x i) (λ l. in-from S x n (suc i) l (omega arith) h)
   where

@@ -53,13 +53,13 @@ entered-zero t a b c e = not-true (entered t a b c)
 pub entered-empty : (a b c : ℕ) → entered [] a b c ≡ false
 entered-empty a b c = entered-zero [] a b c refl
 
+pub zero-at : (n i : ℕ) → getD {A = ℕ} (replicate n 0) i 0 ≡ 0
+zero-at n i = test (ltb i n)
+    (λ l. getD-replicate n i 0 0 (ltb-true i n l))
+    (λ l. List·getD-eq-default (replicate n 0) 0 (omega (arith, ltb-false i n (not-true (ltb i n) l), length-replicate {A = ℕ} n 0)))
+
 pub entered-zeros : (n a b c : ℕ) → entered (replicate n 0) a b c ≡ false
-entered-zeros n a b c = entered-zero (replicate n 0) a b c (zeros n (placeOf a b c))
-  where
-    zeros : (n i : ℕ) → getD {A = ℕ} (replicate n 0) i 0 ≡ 0
-    zeros n i = test (ltb i n)
-        (λ l. getD-replicate n i 0 0 (ltb-true i n l))
-        (λ l. List·getD-eq-default (replicate n 0) 0 (omega (arith, ltb-false i n (not-true (ltb i n) l), length-replicate {A = ℕ} n 0)))
+entered-zeros n a b c = entered-zero (replicate n 0) a b c (zero-at n (placeOf a b c))
 
 -- what is entered has its place in the table
 pub entered-within : (t : List ℕ) (a b c : ℕ) → So (entered t a b c) → placeOf a b c < length t

@@ -7,3 +7,4 @@ pub mod Bytes
 pub mod Limits
 pub mod Find
 pub mod Passing
+pub mod Fillings

@@ -8,12 +8,12 @@ use native.Mathlib.Omega.{arith}
 use borrow.Author.Tests.{eqb-true, le-ltb, lt-ltb, ltb-false, ltb-true, not-true}
 use lib.Bits.{or-lt}
 use lib.Dec.{eqb, ltb}
-use lib.ListN.{drop, drop-of-length-le, getD, length}
+use lib.ListN.{drop, drop-of-length-le, getD, length, replicate}
 use lib.Pow.{pow-lt}
 use lib.Seq.{drop-cons, getD-set-same}
 use Rattle.sets.proofs.Bools.{ne-e, test}
 use Rattle.sets.specs.Sets.{single, union}
-use Rattle.tables.proofs.Bytes.{enter-stays}
+use Rattle.tables.proofs.Bytes.{enter-stays, zero-at}
 use Rattle.tables.specs.Bytes.{bitOf, enter, over, placeOf, top}
 
 module _ (v : ℕ) (t : List ℕ) where
@@ -63,6 +63,9 @@ pub all-over : (t : List ℕ) → ((i : ℕ) → getD t i 0 ≤ top) → over t 
 unfolding over
 all-over [] f = refl
 all-over (v ∷ t) f = over-no v t (f 0) ∙ ap suc (all-over t (λ i. f (suc i)))
+
+pub zeros-small : (n : ℕ) → over (replicate n 0) ≡ length {A = ℕ} (replicate n 0)
+zeros-small n = all-over (replicate n 0) (λ i. rw (zero-at n i) (omega arith))
 
 pub bit-small : (a b c : ℕ) → bitOf a b c ≤ 2
 unfolding bitOf

@@ -10,9 +10,9 @@ use lib.Dec.{eqb, ltb}
 use Rattle.sets.proofs.Bools.{and-i, and-l, and-r, bool-ext, by-order, ne-e, test}
 use Rattle.trees.proofs.Triplets.{different-e, different-swap, only-e, only-i}
 use Rattle.trees.specs.Triplets.{different, only}
-use Rattle.tables.proofs.Indices.{index-inj}
+use Rattle.tables.proofs.Indices.{index-inj, index-lt}
 use Rattle.tables.specs.Bytes.{bitOf, placeOf}
-use Rattle.tables.specs.Index.{high, index, low, mid}
+use Rattle.tables.specs.Index.{C, high, index, low, mid}
 
 -- ---- the bit, by the order of the third species and the other two
 
@@ -143,6 +143,13 @@ placed a b c d =
         (λ j. placed-as a b c 2 c p q
         (bit-low a b c (subst (λ (x : ℕ). c ≤ x) (sym eq) (le-of-lt k)) (subst (λ (x : ℕ). c ≤ x) (sym ep) (le-of-lt j)))
         (l ∙ min-eq-right (le-of-lt j)) (h ∙ max-eq-left (le-of-lt k)) (swap p q c _ s .1) j lt ep eq refl))
+
+-- among n species the place is in their table
+pub place-lt : (a b c n : ℕ) → So (different a b c) → a < n → b < n → c < n → placeOf a b c < C n 3
+unfolding placeOf
+place-lt a b c n d p q r =
+    let s = placed a b c d in
+    index-lt (low a b c) (mid a b c) (high a b c) n (s .below) (s .above) (high-lt a b c n p q r)
 
 -- the same place and bit: the same triplet
 pair-cases : (a b x y : ℕ) → min a b ≡ min x y → max a b ≡ max x y → ((x ≡ a) × (y ≡ b)) ⊎ ((x ≡ b) × (y ≡ a))

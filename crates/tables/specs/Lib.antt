@@ -3,4 +3,5 @@ pub mod Index
 pub mod Bytes
 pub mod Find
 pub mod Checked
+pub mod Filled
 pub mod Named

@@ -1,7 +1,7 @@
 // Triples of species, their indices, and the table of entered triplets.
 ghost use mathlib.Core.Path.{_≡_};
 ghost use Prim.Native.Nat.{_<_, _≤_, min, max};
-ghost use lib.ListN.{length};
+ghost use lib.ListN.{length, replicate};
 ghost use mathlib.Core.Bool.{So};
 ghost use Rattle.sets.specs.Sets.{single};
 ghost use Rattle.trees.specs.Triplets.{different};
@@ -202,4 +202,15 @@ pub fn put(t: &mut [u8], a: usize, b: usize, c: usize)
     let s = spot(a, b, c);
     let i = s.place;
     t[i] = t[i] | s.bit;
+}
+
+// Takes everything out: a table of zeros.
+pub fn clear(t: &mut [u8])
+    ensures { λ r. ⌜ now (t .exit) ≡ replicate (length (now (t .entry))) 0 ⌝ }
+{
+    let mut i = 0;
+    while i < t.len() {
+        t[i] = 0;
+        i += 1;
+    }
 }

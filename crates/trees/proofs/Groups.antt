@@ -16,7 +16,7 @@ cutBy-e [] a b c h = absurd (false≢true h)
 cutBy-e (G ∷ l) a b c h = or-case (cuts G a b c) (cutBy l a b c) h
     (λ k. (G, List·Memᴰ·head refl, k)) (λ k. let r = cutBy-e l a b c k in (r .0, List·Memᴰ·tail (r .1), r .2))
 
-cutBy-i : (l : List Species) (G : Species) (a b c : ℕ) → List·Memᴰ G l → So (cuts G a b c) → So (cutBy l a b c)
+pub cutBy-i : (l : List Species) (G : Species) (a b c : ℕ) → List·Memᴰ G l → So (cuts G a b c) → So (cutBy l a b c)
 cutBy-i [] G a b c m h = absurd (List·Memᴰ·not-nil m)
 cutBy-i (K ∷ l) G a b c m h = ⊎-elim
     (λ e. or-l (cuts K a b c) _ (subst (λ (Z : Species). So (cuts Z a b c)) e h)) (λ k. or-r (cuts K a b c) _ (cutBy-i l G a b c k h)) (List·Memᴰ·cases-cons m)

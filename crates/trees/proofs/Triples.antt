@@ -1,8 +1,9 @@
 -- A statement on all triples a < b < c is one on three species in any order: what a search through the triples rests on. Assumes nothing.
 use mathlib.Core.Bool.{So, and-comm, not}
-use mathlib.Core.Path.{_∙_, ap}
+use mathlib.Core.Logic.{_≢_}
+use mathlib.Core.Path.{_∙_, _≡_, ap, sym}
 use Prim.Native.Nat.{_<_, ℕ}
-use Rattle.sets.proofs.Bools.{and-i, and-l, and-r, by-order, not-e, not-i, or-case, or-l, or-r}
+use Rattle.sets.proofs.Bools.{and-i, and-l, and-r, bool-ext, by-order, not-e, not-i, or-case, or-l, or-r}
 use Rattle.trees.proofs.Agreement.{R-in, R-proper}
 use Rattle.trees.proofs.Splits.{holds-e, holds-swap}
 use Rattle.trees.specs.Check.{R, core, differs, unsure}
@@ -54,3 +55,19 @@ module _ (E : Triplets) (N : ℕ) (T : Tree) where
 
   pub unsure-in : (a b c : ℕ) → So (unsure E N T a b c) → So (under T a) × So (under T b) × So (under T c)
   unsure-in a b c h = let o = holds-e T a b c (and-l (holds T a b c) _ h) in (o .in-a, o .in-b, o .in-c)
+
+-- ---- two kinds of triplets that agree on every triple a < b < c agree on three different species in any order
+
+module _ (N : ℕ) (P Q : Triplets) (ps : (a b c : ℕ) → P a b c ≡ P b a c) (qs : (a b c : ℕ) → Q a b c ≡ Q b a c)
+    (sorted : (a b c : ℕ) → a < b → b < c → c < N → (P a b c ≡ Q a b c) × (P a c b ≡ Q a c b) × (P b c a ≡ Q b c a)) where
+  agree-up : (a b c : ℕ) → a < b → a ≢ c → b ≢ c → b < N → c < N → P a b c ≡ Q a b c
+  agree-up a b c lt ac bc hb hc = by-order b c (λ l. sorted a b c lt l hc .0) (λ e. absurd (bc e))
+      (λ l. by-order a c (λ m. sorted a c b m l hb .1) (λ e. absurd (ac e)) (λ m. sorted c a b m lt hb .2))
+
+  pub agree-all : (a b c : ℕ) → a ≢ b → a ≢ c → b ≢ c → a < N → b < N → c < N → P a b c ≡ Q a b c
+  agree-all a b c ab ac bc ha hb hc = by-order a b (λ l. agree-up a b c l ac bc hb hc) (λ e. absurd (ab e))
+      (λ l. ps a b c ∙ agree-up b a c l bc ac ha hc ∙ sym (qs a b c))
+
+-- a swap that keeps a triplet is an equation
+pub swap-same : (E : Triplets) → Proper E → (a b c : ℕ) → E a b c ≡ E b a c
+swap-same E pr a b c = bool-ext (E a b c) (E b a c) (pr .swap a b c) (pr .swap b a c)

@@ -1,0 +1,24 @@
+-- At most one answer and one content meet a contract of our form; and what the first number of an order says. Assumes nothing.
+use mathlib.Core.Path.{_≡_, refl, sym, _∙_}
+use mathlib.Core.Bool.{not, So}
+use mathlib.Core.List.{List, [], _∷_, _++_}
+use borrow.Author.Tests.{not-true}
+use Rattle.answers.specs.Answers.{Value, Step, told, firstOf, Exact}
+
+pub at-most-one : {A B : Type 0} {a : A} {m : B} {r r′ : A} {o o′ : B} → Exact a m r o → Exact a m r′ o′ → (r ≡ r′) × (o ≡ o′)
+at-most-one p q = (p .is ∙ sym (q .is), p .holds ∙ sym (q .holds))
+
+-- no condition of the list holds
+abbrev pub Passed : List Step → Type 0
+Passed [] = Unit {0}
+Passed (s ∷ l) = So (not (s .when)) × Passed l
+
+-- a step whose condition holds, behind steps that were passed, is the answer
+pub first-holds : (l : List Step) (s : Step) (m : List Step) (vs : List Value) → Passed l → So (s .when) → firstOf (l ++ (s ∷ m)) vs ≡ told (s .number) (s .values)
+first-holds [] s m vs p h = rw h refl
+first-holds (x ∷ l) s m vs p h = rw (not-true (x .when) (p .0)) (first-holds l s m vs (p .1) h)
+
+-- where no condition holds, the answer is 0
+pub first-none : (l : List Step) (vs : List Value) → Passed l → firstOf l vs ≡ told 0 vs
+first-none [] vs p = refl
+first-none (x ∷ l) vs p = rw (not-true (x .when) (p .0)) (first-none l vs (p .1))

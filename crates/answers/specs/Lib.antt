@@ -1,0 +1,2 @@
+-- Document 01, "Numbers handed back".
+pub mod Answers

@@ -1,0 +1,78 @@
+-- `bodies::earlier` meets its contract: the first leaf from 0 on is the first one from j on. Assumes nothing.
+use mathlib.Core.Path.{_≡_, refl, sym, _∙_}
+use mathlib.Core.Logic.{⊎-elim}
+use mathlib.Core.Bool.{So, false}
+use Prim.Native.Nat.{_-_, _≤_}
+use native.Mathlib.Omega.{arith}
+use borrow.Author.Needs.{needs}
+use borrow.Author.Tests.{eq-eqb, ne-eqb}
+use Rattle.sets.proofs.Bools.{and-i}
+use Rattle.bodies.specs.Nodes.{nodes}
+use Rattle.bodies.specs.Faults.{seen}
+use Rattle.bodies.proofs.Rules.{leafOf, seen-hit, seen-miss, seen-end}
+use Rattle.bodies.proofs.earlier.Statement.{statement}
+use Rattle.bodies.proofs.earlier.Tie as tie
+
+abbrev Inv-loop : tie.InvT-loop
+Inv-loop body s i j₀ j = (j ≤ i) × (seen (nodes body) s i 0 ≡ seen (nodes body) s (i - j) j)
+
+abbrev μ-loop : tie.MeasureT-loop
+μ-loop body s i j₀ j = i - j
+
+loop-holds : tie.Need-loop-holds Inv-loop μ-loop
+loop-holds c = (search needs, let z : c .before .args .i - 0 ≡ c .before .args .i = omega arith in rw z refl)
+
+species-requires : tie.Need-species-requires Inv-loop μ-loop
+species-requires c κs = search needs
+
+kids-requires : tie.Need-kids-requires Inv-loop μ-loop
+kids-requires c κs = search needs
+
+returns : tie.Need-returns Inv-loop μ-loop
+returns c =
+    let b = c .before .before .before in
+    let l = b .before .before .loop in
+    let a = b .before .before .before .before .args in
+    let v = nodes (a .body .now) in
+    let hit : So (leafOf v (a .s) (l .j)) =
+    and-i _ _ (eq-eqb _ _ (sym (b .species .ensures) ∙ c .before .before .if1 .taken)) (rw (← c .before .kids .ensures) (c .if2 .taken)) in
+    sym (l .inv .1 ∙ seen-hit v (a .s) (a .i) (l .j) (b .before .loop-test .taken) hit)
+
+add-j : tie.Need-add-j Inv-loop μ-loop
+add-j c = search needs
+
+loop-less : tie.Need-loop-less Inv-loop μ-loop
+loop-less c = search needs
+
+loop-again : tie.Need-loop-again Inv-loop μ-loop
+loop-again c =
+    let b = c .before in
+    let l = b .before .before .loop in
+    let a = b .before .before .before .before .args in
+    let v = nodes (a .body .now) in
+    let miss : leafOf v (a .s) (l .j) ≡ false = ⊎-elim
+    (λ w. rw (eq-eqb _ _ (sym (b .species .ensures) ∙ w .0 .taken), ← w .1 .ensures) (w .2 .left))
+    (λ w. rw (ne-eqb _ _ (λ e. w .left (b .species .ensures ∙ e))) refl)
+    (c .if1 .came) in
+    (search needs, l .inv .1 ∙ seen-miss v (a .s) (a .i) (l .j) (b .before .loop-test .taken) miss)
+
+returns-2 : tie.Need-returns-2 Inv-loop μ-loop
+returns-2 c =
+    let l = c .before .loop in
+    let z : l .j ≡ c .before .before .before .args .i = omega arith in
+    sym (l .inv .1 ∙ seen-end _ _ _ _ (omega arith) ∙ z)
+
+pub earlier-spec : {M : Type 1} → statement M
+earlier-spec =
+    tie.close
+    (tie.spec
+    Inv-loop
+    μ-loop
+    loop-holds
+    species-requires
+    kids-requires
+    returns
+    add-j
+    loop-less
+    loop-again
+    returns-2)

@@ -1,0 +1,74 @@
+-- Where things stand in a collection. Document 01, "A tree's body and the collection": "A collection is: version byte 1; n; the number of trees; then
+-- for each tree a two-byte length of its body, big-endian, and the body. Nothing follows."
+use mathlib.Core.Bool.{Bool, true, false, not, _||_}
+use mathlib.Core.List.{List}
+use Prim.Native.Nat.{ℕ, zero, suc, _+_, _*_}
+use lib.Dec.{eqb, ltb}
+use lib.ListN.{length, getD, take, drop}
+use Rattle.bodies.specs.declared.Verdict.{Verdict}
+use Rattle.bodies.specs.declared.Verdict.the-variants.{Fine, Breaks}
+use Rattle.bodies.specs.Nodes.{nodes, badLength}
+use Rattle.bodies.specs.Faults.{fault}
+
+-- "a tree rule is broken"
+abbrev pub broken : Verdict → Bool
+broken Fine = false
+broken (Breaks x) = true
+
+module _ (b : List ℕ) where
+  abbrev pub version : ℕ
+  version = getD b 0 0
+
+  abbrev pub species : ℕ
+  species = getD b 1 0
+
+  abbrev pub trees : ℕ
+  trees = getD b 2 0
+
+  -- the number in the two bytes from p on
+  abbrev pub lengthAt : ℕ → ℕ
+  lengthAt p = 256 * getD b p 0 + getD b (p + 1) 0
+
+  -- where tree k's two length bytes stand; past the last tree, where the bytes should end
+  unfoldable pub start : ℕ → ℕ
+  start zero = 3
+  start (suc k) = start k + 2 + lengthAt (start k)
+
+  -- tree k's body
+  abbrev pub bodyAt : ℕ → List ℕ
+  bodyAt k = take (lengthAt (start k)) (drop (start k + 2) b)
+
+  -- the rule that tree k breaks, if any
+  abbrev pub judged : ℕ → Verdict
+  judged k = fault k (nodes (bodyAt k)) species
+
+  -- ---- the "when" column of document 01's table, as far as it speaks of a collection
+
+  -- "version byte is not 1"
+  abbrev pub wrongVersion : Bool
+  wrongVersion = not (eqb version 1)
+
+  -- "n is 0 or over 64, or over 16 trees"
+  abbrev pub wrongCounts : Bool
+  wrongCounts = eqb species 0 || (ltb 64 species || ltb 16 trees)
+
+  -- "the bytes end early": nothing at all, in the header, in tree k's length, in tree k's body
+  abbrev pub noByte : Bool
+  noByte = eqb (length b) 0
+
+  abbrev pub shortHeader : Bool
+  shortHeader = ltb (length b) 3
+
+  abbrev pub shortLength : ℕ → Bool
+  shortLength k = ltb (length b) (start k + 2)
+
+  abbrev pub shortBody : ℕ → Bool
+  shortBody k = ltb (length b) (start (suc k))
+
+  -- "body length 0, odd or over 254"
+  abbrev pub wrongLength : ℕ → Bool
+  wrongLength k = badLength (lengthAt (start k))
+
+  -- "bytes left over"
+  abbrev pub tooLong : Bool
+  tooLong = ltb (start trees) (length b)

@@ -1,0 +1,4 @@
+-- Reading a collection: its layout, the answer, and document 01's order of refusals.
+pub mod Layout
+pub mod Reads
+pub mod Order

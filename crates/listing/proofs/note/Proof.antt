@@ -1,0 +1,93 @@
+-- Each answer enters its triplet, which has its place in the table. Assumes nothing.
+use mathlib.Core.Path.{_∙_, ap, sym}
+use borrow.Author.Needs.{needs}
+use Rattle.bodies.specs.declared.Says.{Says}
+use Rattle.listing.proofs.Growth.{room-ab, room-ac, room-bc}
+use Rattle.listing.specs.Adds.{noted}
+use Rattle.listing.proofs.note.Statement.{statement}
+use Rattle.listing.proofs.note.Tie as tie
+
+enum-told : tie.Need-enum-told
+enum-told c = search needs
+
+put-requires : tie.Need-put-requires
+put-requires c κs =
+    let s = c .before .before .before .before in
+    room-ab (s .args .t .now) (s .args .a) (s .args .b) (s .args .c) (s .pre .0) (s .pre .1) (s .pre .3) (s .pre .2)
+
+enum-told-2 : tie.Need-enum-told-2
+enum-told-2 c = search needs
+
+put-requires-2 : tie.Need-put-requires-2
+put-requires-2 c κs =
+    let s = c .before .before .before .before in
+    room-ac (s .args .t .now) (s .args .a) (s .args .b) (s .args .c) (s .pre .0) (s .pre .1) (s .pre .3) (s .pre .2)
+
+enum-told-3 : tie.Need-enum-told-3
+enum-told-3 c = search needs
+
+put-requires-3 : tie.Need-put-requires-3
+put-requires-3 c κs =
+    let s = c .before .before .before .before in
+    room-bc (s .args .t .now) (s .args .a) (s .args .b) (s .args .c) (s .pre .0) (s .pre .1) (s .pre .3) (s .pre .2)
+
+enum-told-4 : tie.Need-enum-told-4
+enum-told-4 c = search needs
+
+same-length : tie.Need-same-length
+same-length c = search needs
+
+returns : tie.Need-returns
+unfolding noted
+returns c =
+    let p = c .before .before in
+    let e = p .before .before in
+    let s = e .before .before .before in
+    p .put .ensures .is ∙ sym (ap (λ (w : Says). noted w (s .args .t .now) (s .args .a) (s .args .b) (s .args .c)) (e .enum-told .given .1))
+
+same-length-2 : tie.Need-same-length-2
+same-length-2 c = search needs
+
+returns-2 : tie.Need-returns-2
+unfolding noted
+returns-2 c =
+    let p = c .before .before in
+    let e = p .before .before in
+    let s = e .before .before .before in
+    p .put2 .ensures .is ∙ sym (ap (λ (w : Says). noted w (s .args .t .now) (s .args .a) (s .args .b) (s .args .c)) (e .enum-told2 .given .1))
+
+same-length-3 : tie.Need-same-length-3
+same-length-3 c = search needs
+
+returns-3 : tie.Need-returns-3
+unfolding noted
+returns-3 c =
+    let p = c .before .before in
+    let e = p .before .before in
+    let s = e .before .before .before in
+    p .put3 .ensures .is ∙ sym (ap (λ (w : Says). noted w (s .args .t .now) (s .args .a) (s .args .b) (s .args .c)) (e .enum-told3 .given .1))
+
+returns-4 : tie.Need-returns-4
+unfolding noted
+returns-4 c =
+    let s = c .before .before .before in
+    sym (ap (λ (w : Says). noted w (s .args .t .now) (s .args .a) (s .args .b) (s .args .c)) (c .enum-told4 .given .1))
+
+pub note-spec : {M : Type 1} → statement M
+note-spec =
+    tie.close
+    (tie.spec
+    enum-told
+    put-requires
+    enum-told-2
+    put-requires-2
+    enum-told-3
+    put-requires-3
+    enum-told-4
+    same-length
+    returns
+    same-length-2
+    returns-2
+    same-length-3
+    returns-3
+    returns-4)
