@@ -1,35 +1,19 @@
--- The table of pairs, entry by entry: a row, all rows, and tables of zeros. Assumes nothing.
-use mathlib.Core.Path.{_≡_, refl, sym, ap, _∙_}
-use mathlib.Core.Logic.{_≢_}
-use mathlib.Core.Bool.{Bool, false, cond, not, _&&_, and-true, and-false, and-not-self}
+-- The table of pairs, entry by entry: a row, and all rows. Assumes nothing.
+use mathlib.Core.Bool.{Bool, _&&_, and-false, and-true, cond, false, not, and-not-self}
 use mathlib.Core.List.{List}
-use Prim.Native.Nat.{ℕ, _+_, _*_, _≤_, _<_}
-use native.Mathlib.Decide.{ℕ-discrete, decLt}
+use mathlib.Core.Logic.{_≢_}
+use mathlib.Core.Path.{_∙_, _≡_, ap, refl, sym}
+use Prim.Native.Nat.{_*_, _+_, _<_, ℕ}
+use native.Mathlib.Decide.{ℕ-discrete}
 use native.Mathlib.Omega.{arith}
 use borrow.Author.Tests.{eq-eqb, ne-eqb}
 use lib.Dec.{eqb}
-use lib.ListN.{length, getD, set, length-set, List·getD-eq-default}
-use lib.Seq.{getD-set-same, getD-set-other}
-use Rattle.sets.specs.Sets.{has, Has, Subset, minus, single, Lowest, Rest}
-use Rattle.sets.proofs.Digits.{minus-same, minus-other}
-use Rattle.sets.proofs.Tests.{true-has, false-has, has-empty}
+use lib.ListN.{length, length-set, set}
+use lib.Seq.{getD-set-other, getD-set-same}
+use Rattle.sets.proofs.Digits.{minus-other, minus-same}
+use Rattle.sets.proofs.Tests.{false-has, has-empty, true-has}
+use Rattle.sets.specs.Sets.{Has, Lowest, Rest, Subset, has, minus, single}
 use Rattle.bodies.specs.Groups.{entry}
-
--- ---- zeros
-
-pub cleared : (l : List ℕ) (n i : ℕ) → length l ≡ n → i < n → ((j : ℕ) → j < i → getD l j 0 ≡ 0) → (j : ℕ) → j < i + 1 → getD (set l i 0) j 0 ≡ 0
-cleared l n i e h z j m = go (ℕ-discrete j i)
-  where
-    go : Dec (j ≡ i) → getD (set l i 0) j 0 ≡ 0
-    go (yes q) = rw q (getD-set-same l i 0 0 (omega arith))
-    go (no q) = getD-set-other l i j 0 0 q ∙ z j (omega arith)
-
-pub all-clear : (l : List ℕ) (n i : ℕ) → length l ≡ n → n ≤ i → ((j : ℕ) → j < i → getD l j 0 ≡ 0) → (j : ℕ) → getD l j 0 ≡ 0
-all-clear l n i e h z j = go (decLt j n)
-  where
-    go : Dec (j < n) → getD l j 0 ≡ 0
-    go (yes m) = z j (omega arith)
-    go (no m) = List·getD-eq-default l 0 (omega arith)
 
 -- ---- a walk from the lowest species up: b is the lowest of s, and r the rest
 

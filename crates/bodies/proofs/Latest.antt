@@ -1,29 +1,27 @@
 -- The groups of good nodes: they are the groups of the tree; and the last node's group that has two species is their smallest common group.
 -- Assumes nothing.
-use mathlib.Core.Path.{_≡_, refl, sym, ap, _∙_, subst, fun-ext}
+use mathlib.Core.Bool.{So, _&&_, cond, false, false≢true}
+use mathlib.Core.List.{List, List·Memᴰ, List·Memᴰ·append-cases, List·Memᴰ·cases-cons, List·Memᴰ·eq-of-singleton, List·Memᴰ·head, List·Memᴰ·not-nil, List·Memᴰ·tail, Memᴰ·append-left, Memᴰ·append-right, [], _∷_}
 use mathlib.Core.Logic.{_⊎_, inl, inr, ⊎-elim}
-use mathlib.Core.Bool.{So, cond, _&&_, false, false≢true}
-use mathlib.Core.List.{List, [], _∷_, List·Memᴰ, List·Memᴰ·head, List·Memᴰ·tail, List·Memᴰ·not-nil, List·Memᴰ·cases-cons, List·Memᴰ·eq-of-singleton}
-use mathlib.Core.List.{List·Memᴰ·append-cases, Memᴰ·append-left, Memᴰ·append-right}
-use Prim.Native.Nat.{ℕ, zero, suc, _+_, _≤_, _<_}
+use mathlib.Core.Path.{_∙_, _≡_, ap, fun-ext, refl, subst, sym}
+use Prim.Native.Nat.{_+_, _<_, _≤_, suc, zero, ℕ}
 use native.Mathlib.Decide.{ℕ-discrete}
 use native.Mathlib.Omega.{arith}
 use borrow.Author.Tests.{not-true}
-use lib.ListN.{length, getD}
-use Rattle.sets.specs.Species.{Species}
+use lib.ListN.{getD, length}
+use Rattle.sets.proofs.Bools.{and-i, and-l, and-r, bool-ext, not-e, test}
+use Rattle.sets.proofs.Tests.{has-number, number-empty}
 use Rattle.sets.specs.Sets.{has, number}
-use Rattle.sets.proofs.Bools.{and-i, and-l, and-r, not-e, test, bool-ext}
-use Rattle.sets.proofs.Tests.{has-number}
-use Rattle.trees.specs.Trees.{Tree, under, groups, groupsF, Group}
+use Rattle.sets.specs.Species.{Species}
 use Rattle.trees.proofs.Groups.{root-group}
-use Rattle.bodies.specs.Nodes.{Nodes, children, Good}
-use Rattle.bodies.specs.Draws.{forestOf, grow, subtree}
-use Rattle.bodies.specs.Groups.{setOf, common, entry, Meets}
-use Rattle.bodies.proofs.Under.{Child, is-child, in-children, Under, here, down, meet-under, child-later, under-le, by-children, subtree-eq, under-in, in-leaf, one-leaf}
-use Rattle.bodies.proofs.Drawn.{tree-formed}
-use Rattle.bodies.proofs.Common.{common-e, common-own, common-least}
-use Rattle.bodies.proofs.Passes.{number-empty}
+use Rattle.trees.specs.Trees.{Group, Tree, groups, groupsF, under}
 use Rattle.bodies.proofs.Cells.{Stamped}
+use Rattle.bodies.proofs.Common.{common-e, common-least, common-own}
+use Rattle.bodies.proofs.Drawn.{tree-formed}
+use Rattle.bodies.proofs.Under.{Child, Under, by-children, child-later, down, here, in-children, in-leaf, is-child, meet-under, one-leaf, subtree-eq, under-in, under-le}
+use Rattle.bodies.specs.Draws.{forestOf, grow, subtree}
+use Rattle.bodies.specs.Groups.{Meets, common, entry, setOf}
+use Rattle.bodies.specs.Nodes.{Good, Nodes, children}
 
 -- ---- the groups of a node's tree: its own, and those of its children
 

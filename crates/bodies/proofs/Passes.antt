@@ -1,37 +1,23 @@
 -- The backward pass over the nodes: each gives its group to its parent. Assumes nothing.
-use mathlib.Core.Path.{_≡_, refl, sym, ap, ap₂, _∙_}
-use mathlib.Core.Bool.{Bool, false, cond, _||_}
+use mathlib.Core.Bool.{Bool, cond}
 use mathlib.Core.List.{List, [], _∷_}
-use Prim.Native.Nat.{ℕ, suc, _+_, _-_, _≤_, _<_}
+use mathlib.Core.Path.{_∙_, _≡_, ap, ap₂, refl, sym}
+use Prim.Native.Nat.{_+_, _-_, _<_, _≤_, suc, ℕ}
 use native.Mathlib.Decide.{ℕ-discrete}
 use native.Mathlib.Numerals.{add-one}
 use native.Mathlib.Omega.{arith}
-use borrow.Author.Tests.{eq-eqb, ne-eqb, lt-ltb}
+use borrow.Author.Tests.{eq-eqb, lt-ltb, ne-eqb}
 use lib.Dec.{eqb, ltb}
-use lib.Bits.{or-lt}
-use lib.ListN.{length, getD, set, length-set}
-use lib.Pow.{pow-lt, pow-pos}
-use lib.Seq.{getD-set-same, getD-set-other}
-use Rattle.sets.specs.Species.{Species, put}
-use Rattle.sets.specs.Sets.{number, union, single}
-use Rattle.sets.proofs.Tests.{has-empty, has-union, has-single, has-number, number-lt, number-unique}
+use lib.ListN.{getD, length, length-set, set}
+use lib.Seq.{getD-set-other, getD-set-same}
+use Rattle.sets.proofs.Tests.{number-empty, number-single, number-union}
+use Rattle.sets.specs.Sets.{number, single, union}
+use Rattle.sets.specs.Species.{put}
 use Rattle.trees.specs.Trees.{Forest, under, underF}
-use Rattle.bodies.specs.Nodes.{Nodes, among, children, Good}
-use Rattle.bodies.specs.Draws.{forestOf, grow, subtree}
-use Rattle.bodies.specs.Groups.{setOf, Groups}
 use Rattle.bodies.proofs.Under.{children-after, subtree-eq, subtree-leaf}
-
--- ---- the numbers of the operations on sets
-
-pub number-empty : (n : ℕ) → number n (λ x. false) ≡ 0
-number-empty n = sym (number-unique n 0 (λ x. false) (pow-pos n) (λ i l. has-empty i))
-
-pub number-single : (n x : ℕ) → x < n → number n (eqb x) ≡ single x
-number-single n x h = sym (number-unique n (single x) (eqb x) (pow-lt h) (λ i l. has-single x i))
-
-pub number-union : (n : ℕ) (P Q : Species) → number n (λ x. P x || Q x) ≡ union (number n P) (number n Q)
-number-union n P Q = sym (number-unique n _ (λ x. P x || Q x) (or-lt n (number n P) (number n Q) (number-lt n P) (number-lt n Q))
-    (λ i l. has-union (number n P) (number n Q) i ∙ ap₂ (λ (a b : Bool). a || b) (has-number n P i l) (has-number n Q i l)))
+use Rattle.bodies.specs.Draws.{forestOf, grow, subtree}
+use Rattle.bodies.specs.Groups.{Groups, setOf}
+use Rattle.bodies.specs.Nodes.{Good, Nodes, among, children}
 
 -- the species of a forest as a number
 abbrev setOfF : Forest → ℕ

@@ -3,7 +3,7 @@ ghost use mathlib.Core.Path.{_≡_};
 ghost use mathlib.Core.Bool.{So, cond, not, _&&_};
 ghost use Prim.Native.Nat.{ℕ, _<_, _≤_, _/_};
 ghost use lib.Dec.{eqb, ltb};
-ghost use lib.ListN.{length, getD};
+ghost use lib.ListN.{length, getD, replicate};
 ghost use Rattle.sets.specs.Species.{Below};
 ghost use Rattle.sets.specs.Sets.{has, single};
 ghost use Rattle.trees.specs.Trees.{Tree, under};
@@ -213,14 +213,9 @@ pub fn first_fault(k: usize, n: usize, body: &[u8]) -> Verdict
 }
 
 fn clear(out: &mut [u64; 127])
-    requires { ⌜ length (now out) ≡ 127 ⌝ }
-    ensures { λ _. ⌜ (length (now (out .exit)) ≡ 127) × ((j : ℕ) → getD (now (out .exit)) j 0 ≡ 0) ⌝ }
+    ensures { λ _. ⌜ now (out .exit) ≡ replicate 127 0 ⌝ }
 {
-    let mut i = 0;
-    while i < 127 {
-        out[i] = 0;
-        i += 1;
-    }
+    *out = [0; 127];
 }
 
 // The group of a node: a leaf's species, or what an inner node's children gave.
@@ -254,14 +249,9 @@ pub fn groups(body: &[u8], out: &mut [u64; 127])
 }
 
 fn clear_pairs(out: &mut [u64; 4096])
-    requires { ⌜ length (now out) ≡ 4096 ⌝ }
-    ensures { λ _. ⌜ (length (now (out .exit)) ≡ 4096) × ((j : ℕ) → getD (now (out .exit)) j 0 ≡ 0) ⌝ }
+    ensures { λ _. ⌜ now (out .exit) ≡ replicate 4096 0 ⌝ }
 {
-    let mut i = 0;
-    while i < 4096 {
-        out[i] = 0;
-        i += 1;
-    }
+    *out = [0; 4096];
 }
 
 // The entries of a with every species of g.

@@ -10,7 +10,7 @@ use Rattle.trees.specs.Triplets.{Triplets, both, holds}
 use Rattle.tables.specs.Index.{C}
 use Rattle.tables.specs.Filled.{tableFor}
 use Rattle.bodies.specs.Draws.{treeOf}
-use Rattle.answers.specs.Answers.{Value, Told, told, Step, step, species-count, tree-count}
+use Rattle.answers.specs.Answers.{Told, told, Step, step, species-count, tree-count}
 use Rattle.collections.specs.declared.Counts.{Counts}
 use Rattle.collections.specs.declared.Answer as Reading
 use Rattle.collections.specs.declared.Answer.the-variants.{Good, BadVersion, BadCounts, EndsEarly, LeftOver, BadLength, BadTree}

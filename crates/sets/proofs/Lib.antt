@@ -8,3 +8,4 @@ pub mod Least
 pub mod Ordered
 pub mod Forms
 pub mod Induct
+pub mod Zeros

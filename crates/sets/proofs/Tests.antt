@@ -1,18 +1,18 @@
 -- Sets as tests: `has` of each operation, and the number of a set that is given as a test. Assumes nothing.
-use mathlib.Core.Path.{_≡_, refl, sym, _∙_, subst, fun-ext}
+use mathlib.Core.Bool.{Bool, _&&_, _||_, cond, false, not, true}
 use mathlib.Core.Logic.{_⊎_, inl, inr}
-use mathlib.Core.Bool.{Bool, true, false, not, _&&_, _||_, cond}
-use Prim.Native.Nat.{ℕ, zero, suc, _-_, _/_, _^_, _<_, min, max}
+use mathlib.Core.Path.{_∙_, _≡_, ap₂, fun-ext, refl, subst, sym}
+use Prim.Native.Nat.{_-_, _/_, _<_, _^_, max, min, suc, zero, ℕ}
+use native.Mathlib.Decide.{decLt, ℕ-discrete}
 use native.Mathlib.Omega.{arith}
-use native.Mathlib.Decide.{ℕ-discrete, decLt}
-use borrow.Author.Tests.{eqb-true, eqb-false, eq-eqb, ne-eqb, lt-ltb, le-ltb}
+use borrow.Author.Tests.{eq-eqb, eqb-false, eqb-true, le-ltb, lt-ltb, ne-eqb}
+use lib.Bits.{or-lt}
 use lib.Dec.{eqb}
-use lib.Pow.{pow-pos}
-use Rattle.sets.specs.Species.{Species, below, Below}
-use Rattle.sets.specs.Sets.{digit, has, Has, Lacks, union, meet, minus, single, upto, number}
+use lib.Pow.{pow-lt, pow-pos}
 use Rattle.sets.proofs.Bools.{bool-ext}
-use Rattle.sets.proofs.Digits.{digit-zero, digit-suc, digit-cases, digit-empty, digit-union, digit-meet, digit-minus, has-lt}
-use Rattle.sets.proofs.Digits.{single-same, single-other, upto-in, upto-out, ext-to, digit-of-has}
+use Rattle.sets.proofs.Digits.{digit-cases, digit-empty, digit-meet, digit-minus, digit-of-has, digit-suc, digit-union, digit-zero, ext-to, has-lt, single-other, single-same, upto-in, upto-out}
+use Rattle.sets.specs.Sets.{Has, Lacks, digit, has, meet, minus, number, single, union, upto}
+use Rattle.sets.specs.Species.{Below, Species, below}
 
 -- ---- the test and the facts
 
@@ -114,3 +114,15 @@ number-is n P bd = fun-ext (λ i. go i (decLt i n))
     go : (i : ℕ) → Dec (i < n) → has (number n P) i ≡ P i
     go i (yes l) = has-number n P i l
     go i (no f) = bool-ext _ (P i) (λ m. absurd (f (has-below n (number n P) (number-lt n P) i m))) (λ p. absurd (f (bd i p)))
+
+-- ---- the numbers of the empty set, of one species, and of a union
+
+pub number-empty : (n : ℕ) → number n (λ x. false) ≡ 0
+number-empty n = sym (number-unique n 0 (λ x. false) (pow-pos n) (λ i l. has-empty i))
+
+pub number-single : (n x : ℕ) → x < n → number n (eqb x) ≡ single x
+number-single n x h = sym (number-unique n (single x) (eqb x) (pow-lt h) (λ i l. has-single x i))
+
+pub number-union : (n : ℕ) (P Q : Species) → number n (λ x. P x || Q x) ≡ union (number n P) (number n Q)
+number-union n P Q = sym (number-unique n _ (λ x. P x || Q x) (or-lt n (number n P) (number n Q) (number-lt n P) (number-lt n Q))
+    (λ i l. has-union (number n P) (number n Q) i ∙ ap₂ (λ (a b : Bool). a || b) (has-number n P i l) (has-number n Q i l)))

@@ -7,10 +7,11 @@ use Prim.Native.Nat.{_<_, _≤_, ℕ}
 use native.Mathlib.Omega.{arith}
 use borrow.Author.Tests.{eqb-true, ltb-false, ltb-true, not-true}
 use lib.Dec.{eqb, ltb}
-use lib.ListN.{List·getD-eq-default, getD, getD-replicate, length, length-replicate, length-set, replicate}
+use lib.ListN.{List·getD-eq-default, getD, length, length-set, replicate}
 use lib.Seq.{getD-set-other, getD-set-same}
 use Rattle.sets.proofs.Bools.{and-i, and-l, and-r, ne-e, not-i, test}
 use Rattle.sets.proofs.Tests.{has-empty, has-single, has-union}
+use Rattle.sets.proofs.Zeros.{zero-at}
 use Rattle.sets.specs.Sets.{has, single}
 use Rattle.trees.proofs.Triplets.{different-e, different-i, different-swap}
 use Rattle.trees.specs.Triplets.{Proper, both, different, only}
@@ -52,11 +53,6 @@ entered-zero t a b c e = not-true (entered t a b c)
 
 pub entered-empty : (a b c : ℕ) → entered [] a b c ≡ false
 entered-empty a b c = entered-zero [] a b c refl
-
-pub zero-at : (n i : ℕ) → getD {A = ℕ} (replicate n 0) i 0 ≡ 0
-zero-at n i = test (ltb i n)
-    (λ l. getD-replicate n i 0 0 (ltb-true i n l))
-    (λ l. List·getD-eq-default (replicate n 0) 0 (omega (arith, ltb-false i n (not-true (ltb i n) l), length-replicate {A = ℕ} n 0)))
 
 pub entered-zeros : (n a b c : ℕ) → entered (replicate n 0) a b c ≡ false
 entered-zeros n a b c = entered-zero (replicate n 0) a b c (zero-at n (placeOf a b c))

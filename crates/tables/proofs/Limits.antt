@@ -12,8 +12,9 @@ use lib.ListN.{drop, drop-of-length-le, getD, length, replicate}
 use lib.Pow.{pow-lt}
 use lib.Seq.{drop-cons, getD-set-same}
 use Rattle.sets.proofs.Bools.{ne-e, test}
+use Rattle.sets.proofs.Zeros.{zero-at}
 use Rattle.sets.specs.Sets.{single, union}
-use Rattle.tables.proofs.Bytes.{enter-stays, zero-at}
+use Rattle.tables.proofs.Bytes.{enter-stays}
 use Rattle.tables.specs.Bytes.{bitOf, enter, over, placeOf, top}
 
 module _ (v : ℕ) (t : List ℕ) where

@@ -1,18 +1,19 @@
 -- `bodies::groups` meets its contract. The loop's invariant: the nodes from i on are done, and an earlier node has what its children from i on gave.
 -- Assumes nothing.
-use mathlib.Core.Path.{_≡_, ap, _∙_, subst}
 use mathlib.Core.Bool.{cond}
 use mathlib.Core.List.{List}
-use Prim.Native.Nat.{ℕ, _+_, _-_, _/_, _≤_, _<_}
+use mathlib.Core.Path.{_∙_, _≡_, ap, subst}
+use Prim.Native.Nat.{_+_, _-_, _/_, _<_, _≤_, ℕ}
 use native.Mathlib.Omega.{arith}
 use borrow.Author.Needs.{needs}
 use lib.Dec.{ltb}
-use lib.ListN.{length, getD, set}
+use lib.ListN.{getD, length, length-replicate, set}
+use Rattle.sets.proofs.Zeros.{zero-at}
 use Rattle.sets.specs.Sets.{single}
-use Rattle.bodies.specs.Nodes.{Nodes, nodes, Good}
+use Rattle.bodies.proofs.Passes.{Pass, own-group, pass-end, pass-own, pass-root, pass-start, pass-up}
 use Rattle.bodies.specs.Draws.{subtree}
 use Rattle.bodies.specs.Groups.{setOf}
-use Rattle.bodies.proofs.Passes.{Pass, pass-start, own-group, pass-own, pass-root, pass-up, pass-end}
+use Rattle.bodies.specs.Nodes.{Good, Nodes, nodes}
 use Rattle.bodies.proofs.groups.Statement.{statement}
 use Rattle.bodies.proofs.groups.Tie as tie
 
@@ -54,7 +55,7 @@ clear-requires : tie.Need-clear-requires Inv-loop μ-loop
 clear-requires c κs = search needs
 
 loop-holds : tie.Need-loop-holds Inv-loop μ-loop
-loop-holds c = (omega arith, pass-start _ _ (c .clear .ensures .0) (c .clear .ensures .1))
+loop-holds c = (omega arith, pass-start _ _ (ap length (c .clear .ensures) ∙ length-replicate {A = ℕ} 127 0) (λ j. ap (λ (l : List ℕ). getD l j 0) (c .clear .ensures) ∙ zero-at 127 j))
 
 sub-i : tie.Need-sub-i Inv-loop μ-loop
 sub-i c = search needs

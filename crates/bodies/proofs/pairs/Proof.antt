@@ -1,10 +1,13 @@
 -- `bodies::pairs` meets its contract. The loop's invariant: each entry is of the last node so far whose group has both species. Assumes nothing.
-use Prim.Native.Nat.{_-_, _/_, _≤_}
+use mathlib.Core.List.{List}
+use mathlib.Core.Path.{_∙_, ap}
+use Prim.Native.Nat.{_-_, _/_, _≤_, ℕ}
 use native.Mathlib.Omega.{arith}
 use borrow.Author.Needs.{needs}
-use lib.ListN.{length}
+use lib.ListN.{getD, length, length-replicate}
+use Rattle.sets.proofs.Zeros.{zero-at}
+use Rattle.bodies.proofs.Latest.{NodesTo, nodes-end, nodes-start, nodes-step}
 use Rattle.bodies.specs.Nodes.{nodes}
-use Rattle.bodies.proofs.Latest.{NodesTo, nodes-start, nodes-step, nodes-end}
 use Rattle.bodies.proofs.pairs.Statement.{statement}
 use Rattle.bodies.proofs.pairs.Tie as tie
 
@@ -18,7 +21,7 @@ clear-pairs-requires : tie.Need-clear-pairs-requires Inv-loop μ-loop
 clear-pairs-requires c κs = search needs
 
 loop-holds : tie.Need-loop-holds Inv-loop μ-loop
-loop-holds c = (omega arith, nodes-start _ _ (c .clear-pairs .ensures .0) (c .clear-pairs .ensures .1))
+loop-holds c = (omega arith, nodes-start _ _ (ap length (c .clear-pairs .ensures) ∙ length-replicate {A = ℕ} 4096 0) (λ j. ap (λ (l : List ℕ). getD l j 0) (c .clear-pairs .ensures) ∙ zero-at 4096 j))
 
 mul-stamp : tie.Need-mul-stamp Inv-loop μ-loop
 mul-stamp c = search needs

@@ -1,0 +1,138 @@
+// Times the library against its twin in one process, and listing 16 trees against listing one. Exit 1 where a limit is not met or an answer differs.
+
+mod boundary;
+mod clock;
+mod shapes;
+mod twin;
+
+use shapes::{body, collection, shuffled, Dice, Shape, SHAPES};
+use std::hint::black_box;
+use std::time::Duration;
+
+const SEED: u64 = 20_071;
+const N: u8 = 64;
+const ROOM: usize = 41_664;
+const TWIN_LIMIT: f64 = 1.3;
+const TREES_LIMIT: f64 = 17.0;
+const ROUNDS: usize = 301;
+const SAMPLE: Duration = Duration::from_micros(1_000);
+
+type Read = fn(&[u8], &mut [usize]) -> usize;
+type List = fn(&[u8], &mut [u8], &mut [usize]) -> usize;
+
+fn median(mut xs: Vec<f64>) -> f64 {
+    xs.sort_by(f64::total_cmp);
+    xs[xs.len() / 2]
+}
+
+// The time of some calls.
+fn timed(work: &mut dyn FnMut(), calls: u32) -> Duration {
+    let start = clock::now();
+    for _ in 0..calls {
+        work();
+    }
+    clock::now() - start
+}
+
+// How many calls take a sample's time, so that the clock does not count.
+fn calls_in_a_sample(work: &mut dyn FnMut()) -> u32 {
+    let mut calls = 1;
+    while timed(work, calls) < SAMPLE {
+        calls *= 2;
+    }
+    calls
+}
+
+// Times the two alternately, the first to go changing each round: prints the medians, and says whether the ratio is within the limit.
+fn within(name: &str, limit: f64, one: &mut dyn FnMut(), other: &mut dyn FnMut()) -> bool {
+    let (one_calls, other_calls) = (calls_in_a_sample(one), calls_in_a_sample(other));
+    let micros = |work: &mut dyn FnMut(), calls| timed(work, calls).as_secs_f64() * 1e6 / calls as f64;
+    let (mut times, mut others, mut ratios) = (Vec::new(), Vec::new(), Vec::new());
+    for round in 0..ROUNDS {
+        let (x, y);
+        if round % 2 == 0 {
+            x = micros(one, one_calls);
+            y = micros(other, other_calls);
+        } else {
+            y = micros(other, other_calls);
+            x = micros(one, one_calls);
+        }
+        times.push(x);
+        others.push(y);
+        ratios.push(x / y);
+    }
+    let ratio = median(ratios);
+    let met = ratio <= limit;
+    let verdict = if met { "met" } else { "NOT MET" };
+    println!("{name:<36} {:>10.2} us {:>10.2} us   ratio {ratio:>6.3}   limit {limit}: {verdict}", median(times), median(others));
+    met
+}
+
+fn reading<'a>(read: Read, bytes: &'a [u8]) -> impl FnMut() + 'a {
+    let mut values = [0; 4];
+    move || {
+        black_box(read(black_box(bytes), &mut values));
+    }
+}
+
+fn listing<'a>(list: List, bytes: &'a [u8]) -> impl FnMut() + 'a {
+    let mut table = vec![0; ROOM];
+    let mut values = [0; 4];
+    move || {
+        black_box(list(black_box(bytes), &mut table, &mut values));
+        black_box(&table);
+    }
+}
+
+// What both calls answer, on a table and values that held something else.
+fn answers(read: Read, list: List, bytes: &[u8]) -> (usize, [usize; 4], usize, [usize; 4], Vec<u8>) {
+    let (mut values, mut list_values, mut table) = ([77; 4], [77; 4], vec![0xa5; ROOM]);
+    let number = read(bytes, &mut values);
+    let list_number = list(bytes, &mut table, &mut list_values);
+    (number, values, list_number, list_values, table)
+}
+
+fn main() {
+    let runs: Vec<(Shape, Vec<u8>, Vec<u8>)> = SHAPES
+        .iter()
+        .map(|&shape| {
+            let mut dice = Dice(SEED);
+            let species = if shape == Shape::Random { shuffled(N, &mut dice) } else { (0..N).collect() };
+            let tree = body(shape, &species, &mut dice);
+            (shape, collection(N, &[tree.clone()]), collection(N, &vec![tree; 16]))
+        })
+        .collect();
+
+    for (shape, one, sixteen) in &runs {
+        for bytes in [one, sixteen] {
+            let wanted = answers(twin::read, twin::list, bytes);
+            if wanted.0 != 0 || wanted != answers(boundary::read, boundary::list, bytes) {
+                println!("{shape:?}: the library and the twin do not both answer 0 with the same values and table");
+                std::process::exit(1);
+            }
+        }
+    }
+    println!("64 species; 16 trees are the same tree 16 times; the table is not cleared before a call, which fills all of it.");
+    println!("Medians of {ROUNDS} rounds, the two in turn, in processor time; the ratio is the median of the rounds' ratios.");
+    println!("The answers of library and twin are the same.");
+
+    println!("library against twin:");
+    let mut met = true;
+    for (shape, one, sixteen) in &runs {
+        for (count, bytes) in [(1, one), (16, sixteen)] {
+            let name = format!("read {count} {shape:?}");
+            met &= within(&name, TWIN_LIMIT, &mut reading(boundary::read, bytes), &mut reading(twin::read, bytes));
+        }
+        let name = format!("list 1 {shape:?}");
+        met &= within(&name, TWIN_LIMIT, &mut listing(boundary::list, one), &mut listing(twin::list, one));
+    }
+    println!("library, 16 trees against one tree:");
+    for (shape, one, sixteen) in &runs {
+        let name = format!("list 16 against 1, {shape:?}");
+        met &= within(&name, TREES_LIMIT, &mut listing(boundary::list, sixteen), &mut listing(boundary::list, one));
+    }
+    println!("bench: {}", if met { "every limit is met" } else { "a limit is NOT MET" });
+    if !met {
+        std::process::exit(1);
+    }
+}

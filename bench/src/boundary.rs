@@ -1,0 +1,19 @@
+// The library's functions. Nothing checks these declarations against the library, so they stand here and nowhere else.
+
+extern "C" {
+    fn koodhaxil_read(b: *const u8, b_len: usize, values: *mut usize, values_len: usize) -> usize;
+
+    fn koodhaxil_list(b: *const u8, b_len: usize, t: *mut u8, t_len: usize, values: *mut usize, values_len: usize) -> usize;
+}
+
+/// Reads a collection: document 01's number, with what is returned beside it laid into `values`.
+pub fn read(b: &[u8], values: &mut [usize]) -> usize {
+    // SAFETY: each pointer comes with the length of the slice that it was taken from, and the slices do not overlap.
+    unsafe { koodhaxil_read(b.as_ptr(), b.len(), values.as_mut_ptr(), values.len()) }
+}
+
+/// Lists a collection into the table `t`: the number and the values as for `read`.
+pub fn list(b: &[u8], t: &mut [u8], values: &mut [usize]) -> usize {
+    // SAFETY: as above.
+    unsafe { koodhaxil_list(b.as_ptr(), b.len(), t.as_mut_ptr(), t.len(), values.as_mut_ptr(), values.len()) }
+}

@@ -1,0 +1,143 @@
+// A second implementation, from document 01 alone and by another way: a tree is a nest of lists, a triplet is held where a scan of all groups finds
+// one with a and b and without c, and the table is written from its first byte to its last, without an index.
+
+pub struct Told {
+    pub number: usize,
+    pub values: Vec<usize>,
+}
+
+enum Tree {
+    Leaf(usize),
+    Inner(Vec<Tree>),
+}
+
+type Group = [bool; 64];
+
+fn told(number: usize, values: &[usize]) -> Told {
+    Told { number, values: values.to_vec() }
+}
+
+fn grow(node: usize, species: &[usize], children: &[Vec<usize>]) -> Tree {
+    if children[node].is_empty() {
+        return Tree::Leaf(species[node]);
+    }
+    Tree::Inner(children[node].iter().map(|&child| grow(child, species, children)).collect())
+}
+
+// The tree of a body, or node, fault and what the fault carries.
+fn tree_of(body: &[u8], n: usize) -> Result<Tree, [usize; 3]> {
+    let parents: Vec<usize> = body.iter().step_by(2).map(|&x| x as usize).collect();
+    let species: Vec<usize> = body.iter().skip(1).step_by(2).map(|&x| x as usize).collect();
+    let mut children = vec![Vec::new(); parents.len()];
+    for (node, &parent) in parents.iter().enumerate() {
+        match node {
+            0 if parent == 255 => {}
+            1.. if parent < node => children[parent].push(node),
+            _ => return Err([node, 1, parent]),
+        }
+    }
+    let mut leaves: Vec<(usize, usize)> = Vec::new();
+    for (node, &own) in species.iter().enumerate() {
+        let leaf = children[node].is_empty();
+        if (leaf && own >= n) || (!leaf && own != 255) {
+            return Err([node, 2, own]);
+        }
+        if leaf {
+            if let Some((before, _)) = leaves.iter().find(|(_, s)| *s == own) {
+                return Err([node, 3, *before]);
+            }
+            leaves.push((node, own));
+        }
+        if children[node].len() == 1 {
+            return Err([node, 4, 0]);
+        }
+    }
+    Ok(grow(0, &species, &children))
+}
+
+fn trees_of(b: &[u8]) -> Result<(usize, Vec<Tree>), Told> {
+    let Some((version, header)) = b.split_first() else { return Err(told(3, &[0])) };
+    if *version != 1 {
+        return Err(told(1, &[]));
+    }
+    let [n, count, rest @ ..] = header else { return Err(told(3, &[0])) };
+    let (n, mut rest) = (*n as usize, rest);
+    if !(1..=64).contains(&n) || *count > 16 {
+        return Err(told(2, &[]));
+    }
+    let mut trees = Vec::new();
+    for k in 0..*count as usize {
+        let [high, low, tail @ ..] = rest else { return Err(told(3, &[k])) };
+        let length = u16::from_be_bytes([*high, *low]) as usize;
+        if !(1..=254).contains(&length) || length % 2 == 1 {
+            return Err(told(5, &[k]));
+        }
+        let Some(body) = tail.get(..length) else { return Err(told(3, &[k])) };
+        trees.push(tree_of(body, n).map_err(|[node, fault, carried]| told(6, &[k, node, fault, carried]))?);
+        rest = &tail[length..];
+    }
+    if rest.is_empty() {
+        Ok((n, trees))
+    } else {
+        Err(told(4, &[rest.len()]))
+    }
+}
+
+// The group of the tree's root; every group of the tree goes into `all`.
+fn gather(tree: &Tree, all: &mut Vec<Group>) -> Group {
+    let mut group = [false; 64];
+    match tree {
+        Tree::Leaf(s) => group[*s] = true,
+        Tree::Inner(children) => {
+            for child in children {
+                let under = gather(child, all);
+                for s in 0..64 {
+                    group[s] |= under[s];
+                }
+            }
+        }
+    }
+    all.push(group);
+    group
+}
+
+// Does the tree with these groups hold ab|c? Its root's group is the last.
+fn holds(groups: &[Group], a: usize, b: usize, c: usize) -> bool {
+    groups[groups.len() - 1][c] && groups.iter().any(|g| g[a] && g[b] && !g[c])
+}
+
+pub fn read(b: &[u8]) -> Told {
+    match trees_of(b) {
+        Ok((n, trees)) => told(0, &[n, trees.len()]),
+        Err(refusal) => refusal,
+    }
+}
+
+/// What listing into a table of `room` bytes tells, and the table where it is filled.
+pub fn list(b: &[u8], room: usize) -> (Told, Option<Vec<u8>>) {
+    let (n, trees) = match trees_of(b) {
+        Ok(good) => good,
+        Err(refusal) => return (refusal, None),
+    };
+    let all: Vec<Vec<Group>> = trees
+        .iter()
+        .map(|tree| {
+            let mut groups = Vec::new();
+            gather(tree, &mut groups);
+            groups
+        })
+        .collect();
+    let mut table = Vec::new();
+    for c in 0..n {
+        for b in 0..c {
+            for a in 0..b {
+                let bit = |x, y, z, value| if all.iter().any(|groups| holds(groups, x, y, z)) { value } else { 0 };
+                table.push(bit(a, b, c, 1) + bit(a, c, b, 2) + bit(b, c, a, 4));
+            }
+        }
+    }
+    if table.len() != room {
+        return (told(7, &[]), None);
+    }
+    (told(0, &[n, trees.len()]), Some(table))
+}
