@@ -4,6 +4,16 @@ extern "C" {
     fn koodhaxil_read(b: *const u8, b_len: usize, values: *mut usize, values_len: usize) -> usize;
 
     fn koodhaxil_list(b: *const u8, b_len: usize, t: *mut u8, t_len: usize, values: *mut usize, values_len: usize) -> usize;
+
+    fn koodhaxil_enter(
+        n: usize,
+        records: *const [u8; 3],
+        records_len: usize,
+        t: *mut u8,
+        t_len: usize,
+        values: *mut usize,
+        values_len: usize,
+    ) -> usize;
 }
 
 /// Reads a collection: document 01's number, with what is returned beside it laid into `values`.
@@ -16,4 +26,11 @@ pub fn read(b: &[u8], values: &mut [usize]) -> usize {
 pub fn list(b: &[u8], t: &mut [u8], values: &mut [usize]) -> usize {
     // SAFETY: as above.
     unsafe { koodhaxil_list(b.as_ptr(), b.len(), t.as_mut_ptr(), t.len(), values.as_mut_ptr(), values.len()) }
+}
+
+/// Enters records over `n` species into the table `t`: the number and the values as for `read`.
+#[allow(dead_code)] // `tries` calls it, `bench` does not.
+pub fn enter(n: usize, records: &[[u8; 3]], t: &mut [u8], values: &mut [usize]) -> usize {
+    // SAFETY: as above; the length of `records` is their number.
+    unsafe { koodhaxil_enter(n, records.as_ptr(), records.len(), t.as_mut_ptr(), t.len(), values.as_mut_ptr(), values.len()) }
 }

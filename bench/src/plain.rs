@@ -1,5 +1,6 @@
 // A second implementation, from document 01 alone and by another way: a tree is a nest of lists, a triplet is held where a scan of all groups finds
-// one with a and b and without c, and the table is written from its first byte to its last, without an index.
+// one with a and b and without c, an entered one where a scan of all records finds it, and the table is written from its first byte to its last,
+// without an index.
 
 pub struct Told {
     pub number: usize,
@@ -106,6 +107,20 @@ fn holds(groups: &[Group], a: usize, b: usize, c: usize) -> bool {
     groups[groups.len() - 1][c] && groups.iter().any(|g| g[a] && g[b] && !g[c])
 }
 
+// The table over n species that says the triplets ab|c for which `says` is true of a, b and c.
+fn table_of(n: usize, says: impl Fn(usize, usize, usize) -> bool) -> Vec<u8> {
+    let bit = |x, y, z, value| if says(x, y, z) { value } else { 0 };
+    let mut table = Vec::new();
+    for c in 0..n {
+        for b in 0..c {
+            for a in 0..b {
+                table.push(bit(a, b, c, 1) + bit(a, c, b, 2) + bit(b, c, a, 4));
+            }
+        }
+    }
+    table
+}
+
 pub fn read(b: &[u8]) -> Told {
     match trees_of(b) {
         Ok((n, trees)) => told(0, &[n, trees.len()]),
@@ -127,17 +142,26 @@ pub fn list(b: &[u8], room: usize) -> (Told, Option<Vec<u8>>) {
             groups
         })
         .collect();
-    let mut table = Vec::new();
-    for c in 0..n {
-        for b in 0..c {
-            for a in 0..b {
-                let bit = |x, y, z, value| if all.iter().any(|groups| holds(groups, x, y, z)) { value } else { 0 };
-                table.push(bit(a, b, c, 1) + bit(a, c, b, 2) + bit(b, c, a, 4));
-            }
-        }
-    }
+    let table = table_of(n, |a, b, c| all.iter().any(|groups| holds(groups, a, b, c)));
     if table.len() != room {
         return (told(7, &[]), None);
     }
     (told(0, &[n, trees.len()]), Some(table))
+}
+
+/// What entering records over `n` species into a table of `room` bytes tells, and the table where it is filled.
+pub fn enter(n: usize, records: &[[u8; 3]], room: usize) -> (Told, Option<Vec<u8>>) {
+    if !(1..=64).contains(&n) {
+        return (told(2, &[]), None);
+    }
+    let records: Vec<[usize; 3]> = records.iter().map(|record| record.map(usize::from)).collect();
+    let table = table_of(n, |a, b, c| records.contains(&[a, b, c]) || records.contains(&[b, a, c]));
+    if table.len() != room {
+        return (told(7, &[]), None);
+    }
+    // Three of the n species stand in a good record, and fewer in one that repeats a species or has one not below n.
+    match records.iter().position(|record| (0..n).filter(|s| record.contains(s)).count() < 3) {
+        Some(first) => (told(13, &[first]), None),
+        None => (told(0, &[n]), Some(table)),
+    }
 }

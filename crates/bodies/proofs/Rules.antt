@@ -1,5 +1,5 @@
 -- The walks over the nodes, step by step and what they find; a fault is answered exactly when the nodes are not good. Assumes nothing.
-use mathlib.Core.Bool.{Bool, So, _&&_, _||_, cond, false, false≢true, not, true}
+use mathlib.Core.Bool.{Bool, So, _&&_, cond, false, false≢true, not, true}
 use mathlib.Core.Logic.{_↔_}
 use mathlib.Core.Path.{_∙_, _≡_, ap, refl, subst, sym}
 use Prim.Native.Nat.{_%_, _*_, _+_, _-_, _/_, _<_, _≤_, suc, zero, ℕ}
@@ -9,7 +9,7 @@ use native.Mathlib.Omega.{arith}
 use borrow.Author.Tests.{eq-eqb, eqb-false, eqb-true, le-ltb, lt-ltb, ltb-false, ltb-true, ne-eqb, not-false, not-true}
 use lib.Dec.{eqb, eqb·suc-zero, ltb}
 use lib.ListN.{length}
-use Rattle.sets.proofs.Bools.{and-i, and-l, and-r, ne-e, test}
+use Rattle.sets.proofs.Bools.{and-i, and-l, and-r, ne-e, or-none, test}
 use Rattle.bodies.specs.Faults.{breaks, fault, first, innerFault, leafFault, nodeFault, orElse, parentFault, rightParent, seen}
 use Rattle.bodies.specs.Nodes.{Good, Nodes, among, badLength, children}
 use Rattle.bodies.specs.declared.Broken.{Broken}
@@ -252,12 +252,12 @@ module _ (k n : ℕ) (v : Nodes) where
       })))
 
 -- a fault is answered exactly when the nodes are not good
-pub no-fault : (k n : ℕ) (v : Nodes) → n ≤ 255 → (fault k v n ≡ Fine) ↔ Good n v
-no-fault k n v small = (fine-good k n v, good-fine k n v)
+pub no-fault : (k n : ℕ) (v : Nodes) → (fault k v n ≡ Fine) ↔ Good n v
+no-fault k n v = (fine-good k n v, good-fine k n v)
 
 -- with more species allowed, good nodes stay good
-pub good-more : (n m : ℕ) (v : Nodes) → n ≤ m → m ≤ 255 → Good n v → Good m v
-good-more n m v l small g = record {
+pub good-more : (n m : ℕ) (v : Nodes) → n ≤ m → Good n v → Good m v
+good-more n m v l g = record {
   root = g .root;
   later = g .later;
   inner = g .inner;
@@ -267,10 +267,6 @@ good-more n m v l small g = record {
 }
 
 -- ---- lengths
-
-or-none : (a b : Bool) → (a || b) ≡ false → (a ≡ false) × (b ≡ false)
-or-none false b h = (refl, h)
-or-none true b h = absurd (false≢true (sym h))
 
 -- a length that is not bad is that of 1 to 127 nodes
 pub length-good : (l : ℕ) → badLength l ≡ false → (0 < l / 2) × (l / 2 ≤ 127) × (l ≡ 2 * (l / 2))

@@ -4,9 +4,8 @@ ghost use mathlib.Core.Bool.{So, cond, not, _&&_};
 ghost use Prim.Native.Nat.{ℕ, _<_, _≤_, _/_};
 ghost use lib.Dec.{eqb, ltb};
 ghost use lib.ListN.{length, getD, replicate};
-ghost use Rattle.sets.specs.Species.{Below};
 ghost use Rattle.sets.specs.Sets.{has, single};
-ghost use Rattle.trees.specs.Trees.{Tree, under};
+ghost use Rattle.trees.specs.Trees.{Tree};
 ghost use Rattle.trees.specs.Triplets.{different};
 ghost use Rattle.bodies.specs.Nodes.{nodes, Good, badLength, roomFor, children};
 ghost use Rattle.bodies.specs.Faults.{rightParent, seen, parentFault, nodeFault, fault};
@@ -50,6 +49,7 @@ pub enum Says {
     Nothing,
 }
 
+// A byte as a number.
 fn wide(x: u8) -> usize
     ensures { λ r. ⌜ r ≡ x ⌝ }
 {
@@ -212,6 +212,7 @@ pub fn first_fault(k: usize, n: usize, body: &[u8]) -> Verdict
     Verdict::Fine
 }
 
+// No group yet.
 fn clear(out: &mut [u64; 127])
     ensures { λ _. ⌜ now (out .exit) ≡ replicate 127 0 ⌝ }
 {
@@ -236,7 +237,7 @@ pub fn groups(body: &[u8], out: &mut [u64; 127])
     ensures { λ _. ⌜ Groups (nodes (now (body .entry))) (now (out .exit)) ⌝ }
 {
     clear(out);
-    let mut i = body.len() / 2;
+    let mut i = body.len() / WIDTH;
     while i > 0 {
         i -= 1;
         let group = own(wide(species(body, i)), out[i]);
@@ -248,6 +249,7 @@ pub fn groups(body: &[u8], out: &mut [u64; 127])
     }
 }
 
+// No common group yet.
 fn clear_pairs(out: &mut [u64; 4096])
     ensures { λ _. ⌜ now (out .exit) ≡ replicate 4096 0 ⌝ }
 {
@@ -287,7 +289,7 @@ pub fn pairs(body: &[u8], groups: &[u64; 127], out: &mut [u64; 4096])
     ensures { λ _. ⌜ Meets (treeOf (now (body .entry))) (now (out .exit)) ⌝ }
 {
     clear_pairs(out);
-    let count = body.len() / 2;
+    let count = body.len() / WIDTH;
     let mut node = 0;
     while node < count {
         stamp(groups[node], out);
@@ -314,7 +316,7 @@ fn closer(meets: &[u64; 4096], a: usize, b: usize, c: usize) -> bool
 // What a tree says of three different species, from its species and the smallest common groups.
 pub fn ask(whole: u64, meets: &[u64; 4096], a: usize, b: usize, c: usize) -> Says
     requires { ⌜ So (different a b c) × (a < 64) × (b < 64) × (c < 64) ⌝ }
-    ensures { λ r. ⌜ ((t : Tree) → Below 64 (under t) → Meets t (now (meets .entry)) → whole ≡ setOf t → r ≡ says t a b c) ⌝ }
+    ensures { λ r. ⌜ ((t : Tree) → Meets t (now (meets .entry)) → whole ≡ setOf t → r ≡ says t a b c) ⌝ }
 {
     if !all_in(whole, a, b, c) {
         return Says::Nothing;

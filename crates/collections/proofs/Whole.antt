@@ -11,7 +11,7 @@ use lib.ListN.{length}
 use Rattle.bodies.specs.Nodes.{badLength}
 use Rattle.bodies.specs.declared.Verdict.{Verdict}
 use Rattle.bodies.specs.declared.Verdict.the-variants.{Breaks, Fine}
-use Rattle.sets.proofs.Bools.{ne-e, test}
+use Rattle.sets.proofs.Bools.{ne-e, or-none, test}
 use Rattle.collections.specs.Layout.{judged, lengthAt, noByte, shortBody, shortHeader, shortLength, species, start, trees, wrongCounts, wrongLength, wrongVersion}
 use Rattle.collections.specs.Reads.{readAnswer, readFrom, unless}
 use Rattle.collections.specs.declared.Answer.{Answer}
@@ -82,8 +82,8 @@ module _ (b : List ℕ) (c : Counts) where
       let r = not-good (shortHeader b) (EndsEarly 0) _ c (early 0) (q .1) in
       let s = not-good (wrongCounts b) BadCounts _ c (λ z. let y : _≡_ {A = ℕ} 0 1 = cc in omega arith) (r .1) in
       let f = from-good 0 (trees b) (omega arith) (ltb-false _ _ (r .0)) (s .1) in
-      let n = or-false-e (eqb (species b) 0) _ (s .0) in
-      let m = or-false-e (ltb 64 (species b)) (ltb 16 (trees b)) (n .1) in
+      let n = or-none (eqb (species b) 0) _ (s .0) in
+      let m = or-none (ltb 64 (species b)) (ltb 16 (trees b)) (n .1) in
       record {
         is = f .0;
         some = let z = eqb-false (species b) 0 (n .0) in omega arith;
@@ -92,10 +92,6 @@ module _ (b : List ℕ) (c : Counts) where
         each = λ k l. f .1 k (omega arith) l;
         end = f .2;
       }
-    where
-      or-false-e : (x y : Bool) → (x || y) ≡ false → (x ≡ false) × (y ≡ false)
-      or-false-e true y e = absurd (let z : _≡_ {A = ℕ} 0 1 = cc in omega arith)
-      or-false-e false y e = (refl, e)
 
   -- each tree adds at most 2 + 254 bytes
   start-most : (k : ℕ) → ((m : ℕ) → m < k → lengthAt b (start b m) ≤ 254) → start b k ≤ 3 + 256 * k

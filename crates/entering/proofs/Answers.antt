@@ -9,11 +9,11 @@ use borrow.Author.Tests.{eqb-true, le-ltb, lt-ltb, ltb-false, not-false}
 use lib.Dec.{eqb, ltb}
 use lib.ListN.{length, length-replicate, replicate}
 use Rattle.answers.specs.Answers.{Exact}
-use Rattle.tables.proofs.Places.{same}
+use Rattle.sets.proofs.Bools.{or-none}
 use Rattle.tables.specs.Index.{C}
 use Rattle.entering.proofs.Filling.{fill-table}
 use Rattle.entering.proofs.Records.{firstBad-le}
-use Rattle.entering.specs.Enters.{enterAfter, enterAnswer, enterContent, fill, firstBad, settled, x, y, z}
+use Rattle.entering.specs.Enters.{enterAfter, enterAnswer, enterContent, fill, firstBad, settled}
 use Rattle.entering.specs.Passes.{Ready, cleared, filled}
 use Rattle.entering.specs.declared.Answer.{Answer}
 use Rattle.entering.specs.declared.Answer.the-variants.{BadCount, BadRecord, BadTable, Done}
@@ -51,12 +51,8 @@ done-settled n m k l e q =
     let p₂ = cond-done (not (eqb l (C n 3))) BadTable _ e (λ z. let w : _≡_ {A = ℕ} 0 1 = cc in omega arith) (p₁ .1) in
     let p₃ = cond-done (ltb k m) (BadRecord k) (Done (record { n = n })) e (λ z. let w : _≡_ {A = ℕ} 0 1 = cc in omega arith) (p₂ .1) in
     let same : n ≡ e .n = ap number (p₃ .1) in
-    (sym same, ltb-false 64 n (small (eqb n 0) (ltb 64 n) (p₁ .0)), eqb-true l (C n 3) (not-false _ (p₂ .0)), ltb-false k m (p₃ .0))
+    (sym same, ltb-false 64 n (or-none (eqb n 0) (ltb 64 n) (p₁ .0) .1), eqb-true l (C n 3) (not-false _ (p₂ .0)), ltb-false k m (p₃ .0))
   where
-    small : (a b : Bool) → (a || b) ≡ false → b ≡ false
-    small true b z = absurd (let w : _≡_ {A = ℕ} 0 1 = cc in omega arith)
-    small false b z = z
-
     number : Answer → ℕ
     number (Done e) = e .n
     number BadCount = 0

@@ -7,7 +7,7 @@ use Prim.Native.Nat.{ℕ}
 use lib.ListN.{length}
 use Rattle.answers.proofs.Once.{at-most-one}
 use Rattle.answers.specs.Answers.{Exact, Told, firstOf}
-use Rattle.entering.specs.Enters.{enterAfter, enterAnswer, settled, x, y, z}
+use Rattle.entering.specs.Enters.{enterAfter, enterAnswer, settled}
 use Rattle.entering.specs.Order.{enterOrder, enterTold, enterValues, wrongCount, wrongRecord, wrongRoom}
 use Rattle.entering.specs.declared.Answer.{Answer}
 

@@ -12,22 +12,22 @@ use Rattle.trees.specs.Triplets.{Triplets, both, different, only}
 use Rattle.entering.specs.declared.Answer.{Answer}
 use Rattle.entering.specs.declared.Answer.the-variants.{BadCount, BadRecord, BadTable, Done}
 
--- the three numbers of a record: xy|z
-abbrev pub x : List ℕ → ℕ
-x r = getD r 0 0
+-- the three numbers of a record, left right|outer
+abbrev pub left : List ℕ → ℕ
+left r = getD r 0 0
 
-abbrev pub y : List ℕ → ℕ
-y r = getD r 1 0
+abbrev pub right : List ℕ → ℕ
+right r = getD r 1 0
 
-abbrev pub z : List ℕ → ℕ
-z r = getD r 2 0
+abbrev pub outer : List ℕ → ℕ
+outer r = getD r 2 0
 
 -- "repeats a species or has one not below n": of three numbers, and of a record
 unfoldable pub bad : ℕ → ℕ → ℕ → ℕ → Bool
 bad n a b c = not (different a b c) || not (ltb a n && (ltb b n && ltb c n))
 
 abbrev pub badRecord : ℕ → List ℕ → Bool
-badRecord n r = bad n (x r) (y r) (z r)
+badRecord n r = bad n (left r) (right r) (outer r)
 
 -- "first record": the place of the first bad one, counted from 0; the length where there is none
 unfoldable pub firstBad : ℕ → List (List ℕ) → ℕ
@@ -37,12 +37,12 @@ firstBad n (r ∷ rs) = cond (badRecord n r) 0 (suc (firstBad n rs))
 -- the records entered one after the other
 unfoldable pub fill : List (List ℕ) → List ℕ → List ℕ
 fill [] t = t
-fill (r ∷ rs) t = fill rs (enter t (x r) (y r) (z r))
+fill (r ∷ rs) t = fill rs (enter t (left r) (right r) (outer r))
 
 -- the triplets that the records say
 unfoldable pub among : List (List ℕ) → Triplets
 among [] a b c = false
-among (r ∷ rs) a b c = both (only (x r) (y r) (z r)) (among rs) a b c
+among (r ∷ rs) a b c = both (only (left r) (right r) (outer r)) (among rs) a b c
 
 -- a table of n species that says nothing
 abbrev pub zeros : ℕ → List ℕ

@@ -7,7 +7,7 @@ ghost use lib.ListN.{length};
 ghost use Rattle.tables.specs.Bytes.{enter};
 ghost use Rattle.tables.specs.Index.{C};
 ghost use Rattle.answers.specs.Answers.{Exact};
-ghost use Rattle.entering.specs.Enters.{x, y, z, bad, badRecord, firstBad, fill, settled, enterAnswer, enterAfter};
+ghost use Rattle.entering.specs.Enters.{left, outer, right, bad, badRecord, firstBad, fill, settled, enterAnswer, enterAfter};
 ghost use Rattle.entering.specs.Passes.{Ready, cleared, filled};
 ghost use Rattle.entering.specs.Spelled.{spelled, nearer};
 
@@ -61,7 +61,7 @@ fn first_bad(n: usize, records: &[[u8; 3]]) -> usize
 // Enters one record, which is not bad.
 fn put_record(table: &mut [u8], n: usize, r: [u8; 3])
     requires { ⌜ (n ≤ 64) × (length (now table) ≡ C n 3) × (badRecord n r ≡ false) ⌝ }
-    ensures { λ _. ⌜ now (table .exit) ≡ enter (now (table .entry)) (x r) (y r) (z r) ⌝ }
+    ensures { λ _. ⌜ now (table .exit) ≡ enter (now (table .entry)) (left r) (right r) (outer r) ⌝ }
 {
     tables::put(table, r[0] as usize, r[1] as usize, r[2] as usize);
 }

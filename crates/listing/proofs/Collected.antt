@@ -39,14 +39,14 @@ module _ (b : List ℕ) (r : Readable b) where
     pub inside : (j : ℕ) → j ≤ k → start b (suc j) ≤ length b
     inside j l = readable .each j (omega arith) .inside
 
-    pub body-good : Good (species b) (nodes (bodyAt b k))
-    body-good = no-fault k (species b) (nodes (bodyAt b k)) (omega (arith, most-species)) .0 (readable .each k h .fine)
+    body-good : Good (species b) (nodes (bodyAt b k))
+    body-good = no-fault k (species b) (nodes (bodyAt b k)) .0 (readable .each k h .fine)
 
     long : length (bodyAt b k) ≡ lengthAt b (start b k)
     unfolding start
     long = length-take-le (lengthAt b (start b k)) (drop (start b k + 2) b) (omega (arith, length-drop (start b k + 2) b, readable .each k h .inside))
 
-    pub body-long : badLength (length (bodyAt b k)) ≡ false
+    body-long : badLength (length (bodyAt b k)) ≡ false
     body-long = rw long (readable .each k h .long)
 
     -- the bytes that the code hands on
@@ -57,6 +57,9 @@ module _ (b : List ℕ) (r : Readable b) where
     pub part-is : (s e : ℕ) → s ≡ start b k + 2 → e ≡ start b (suc k) → take (e - s) (drop s b) ≡ bodyAt b k
     unfolding start
     part-is s e p q = let d : e - s ≡ lengthAt b (start b k) = omega arith in rw (d, p) refl
+
+    pub part-good : (n : ℕ) (u : List ℕ) → n ≡ species b → u ≡ bodyAt b k → (n ≤ 64) × Good n (nodes u) × (badLength (length u) ≡ false)
+    part-good n u e q = rw (e, q) (most-species, body-good, body-long)
 
     -- the table after it
     pub said-next : (n : ℕ) (u t t′ : List ℕ) → n ≡ species b → u ≡ bodyAt b k → ((x y z : ℕ) → entered t x y z ≡ said b k x y z) → Adds (treeOf u) 0 (C n 3) t t′

@@ -5,8 +5,7 @@ use mathlib.Core.List.{List}
 use Prim.Native.Nat.{ℕ}
 use lib.Dec.{ltb}
 use lib.ListN.{length}
-use Rattle.sets.specs.Species.{Below}
-use Rattle.trees.specs.Trees.{Tree, under, wellFormed}
+use Rattle.trees.specs.Trees.{Tree, wellFormed}
 use Rattle.trees.specs.Triplets.{holds}
 use Rattle.tables.specs.Bytes.{entered, enter, over, placeOf}
 use Rattle.bodies.specs.Groups.{setOf, Meets}
@@ -23,7 +22,6 @@ noted Nothing t a b c = t
 -- whole is the set of a good tree's species, and meets has the smallest common group of each two of them
 pub record Drawn (T : Tree) (whole : ℕ) (meets : List ℕ) : Type 0 where
   pub formed : So (wellFormed T)
-  pub below : Below 64 (under T)
   pub all : whole ≡ setOf T
   pub meet : Meets T meets
 

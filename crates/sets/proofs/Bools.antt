@@ -31,6 +31,10 @@ pub or-r : (a b : Bool) → So b → So (a || b)
 or-r true b h = refl
 or-r false b h = h
 
+pub or-none : (a b : Bool) → (a || b) ≡ false → (a ≡ false) × (b ≡ false)
+or-none true b h = absurd (false≢true (sym h))
+or-none false b h = (refl, h)
+
 pub not-i : (a : Bool) → (So a → ⊥) → So (not a)
 not-i true f = absurd (f refl)
 not-i false f = refl

@@ -13,7 +13,7 @@ outside : (c : tie.Then1) → let a = c .before .before .args in false ≡ three
 outside c = of-not (c .if1 .taken) (c .before .all-in .ensures)
 
 returns : tie.Need-returns
-returns c = λ t bd m w.
+returns c = λ t m w.
     let S = c .before .before in
     let a = S .args in
     says-by t (a .meets .now) m (a .whole) w (a .a) (a .b) (a .c) (S .pre) false _ _ _ (outside c) refl refl refl
@@ -25,7 +25,7 @@ inside : (c : tie.Else1) → let a = c .before .before .args in true ≡ three (
 inside c = of-not (c .if1 .left) (c .before .all-in .ensures)
 
 returns-2 : tie.Need-returns-2
-returns-2 c = λ t bd m w.
+returns-2 c = λ t m w.
     let E = c .before .before in
     let S = E .before .before in
     let a = S .args in
@@ -35,7 +35,7 @@ closer-requires-2 : tie.Need-closer-requires-2
 closer-requires-2 c κs = search needs
 
 returns-3 : tie.Need-returns-3
-returns-3 c = λ t bd m w.
+returns-3 c = λ t m w.
     let F = c .before .before in
     let E = F .before .before in
     let S = E .before .before in
@@ -47,7 +47,7 @@ closer-requires-3 : tie.Need-closer-requires-3
 closer-requires-3 c κs = search needs
 
 returns-4 : tie.Need-returns-4
-returns-4 c = λ t bd m w.
+returns-4 c = λ t m w.
     let G = c .before .before in
     let F = G .before .before in
     let E = F .before .before in
@@ -57,7 +57,7 @@ returns-4 c = λ t bd m w.
     (sym (G .if3 .left) ∙ G .before .closer2 .ensures) (sym (c .if4 .taken) ∙ c .before .closer3 .ensures)
 
 returns-5 : tie.Need-returns-5
-returns-5 c = λ t bd m w.
+returns-5 c = λ t m w.
     let G = c .before .before in
     let F = G .before .before in
     let E = F .before .before in

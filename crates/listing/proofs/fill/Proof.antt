@@ -5,15 +5,14 @@ use Prim.Native.Nat.{_-_, _<_, _≤_, ℕ}
 use native.Mathlib.Numerals.{add-one}
 use native.Mathlib.Omega.{arith}
 use borrow.Author.Needs.{needs}
-use lib.ListN.{length, length-replicate}
-use Rattle.collections.specs.Layout.{species, trees}
+use lib.ListN.{drop, length, length-replicate, take}
+use Rattle.collections.specs.Layout.{bodyAt, species, trees}
 use Rattle.tables.proofs.Fillings.{table-unique}
 use Rattle.tables.proofs.Limits.{zeros-small}
 use Rattle.tables.specs.Bytes.{entered, over}
 use Rattle.tables.specs.Index.{C}
-use Rattle.trees.specs.Trees.{groups}
-use Rattle.listing.proofs.Collected.{body-good, body-long, inside, most-species, part-in, part-is, said-next, said-none}
-use Rattle.listing.specs.Lists.{said}
+use Rattle.listing.proofs.Collected.{inside, part-good, part-in, part-is, said-next, said-none}
+use Rattle.listing.specs.Lists.{Readable, said}
 use Rattle.listing.proofs.fill.Statement.{statement}
 use Rattle.listing.proofs.fill.Tie as tie
 
@@ -44,38 +43,41 @@ body-span-requires c κs =
     let s = c .before .before .before .before .before .before .before .before in
     inside (s .args .b .now) (s .pre .0) (c .before .loop .k) (omega (arith, c .loop-test .taken, s .pre .2))
 
+-- the body that is handed on, once it is known where it stands
+module _ (c : tie.After-body-span Inv-loop μ-loop) where
+  abbrev k : ℕ
+  k = c .before .before .loop .k
+
+  abbrev b : List ℕ
+  b = c .before .before .before .before .before .before .before .before .before .args .b .now
+
+  abbrev r : Readable b
+  r = c .before .before .before .before .before .before .before .before .before .pre .0
+
+  one-of : k < trees b
+  one-of = omega (arith, c .before .loop-test .taken, c .before .before .before .before .before .before .before .before .before .pre .2)
+
+  from-to : c .body-span .result .start ≤ c .body-span .result .end
+  from-to = omega (arith, c .body-span .ensures .0, c .body-span .ensures .1, part-in b r k one-of)
+
+  is-body : take (c .body-span .result .end - c .body-span .result .start) (drop (c .body-span .result .start) b) ≡ bodyAt b k
+  is-body = part-is b r k one-of (c .body-span .result .start) (c .body-span .result .end) (c .body-span .ensures .0) (c .body-span .ensures .1)
+
 sub-tree : tie.Need-sub-tree Inv-loop μ-loop
-sub-tree c =
-    let l = c .before .before .loop in
-    let s = c .before .before .before .before .before .before .before .before .before in
-    let p = part-in (s .args .b .now) (s .pre .0) (l .k) (omega (arith, c .before .loop-test .taken, s .pre .2)) in
-    omega (arith, c .body-span .ensures .0, c .body-span .ensures .1, p)
+sub-tree c = from-to c
 
 part-tree-start : tie.Need-part-tree-start Inv-loop μ-loop
-part-tree-start c =
-    let l = c .before .before .loop in
-    let s = c .before .before .before .before .before .before .before .before .before in
-    let p = part-in (s .args .b .now) (s .pre .0) (l .k) (omega (arith, c .before .loop-test .taken, s .pre .2)) in
-    omega (arith, c .body-span .ensures .0, c .body-span .ensures .1, p)
+part-tree-start c = from-to c
 
 part-tree-end : tie.Need-part-tree-end Inv-loop μ-loop
-part-tree-end c =
-    let l = c .before .before .loop in
-    let s = c .before .before .before .before .before .before .before .before .before in
-    let p = inside (s .args .b .now) (s .pre .0) (l .k) (omega (arith, c .before .loop-test .taken, s .pre .2)) (l .k) (omega arith) in
-    omega (arith, c .body-span .ensures .1, p)
+part-tree-end c = omega (arith, c .body-span .ensures .1, inside (b c) (r c) (k c) (one-of c) (k c) (omega arith))
 
 tree-requires : tie.Need-tree-requires Inv-loop μ-loop
 tree-requires c κs =
     let p = c .before .before .before .before in
-    let i = p .before in
-    let l = i .before .loop in
-    let s = i .before .before .before .before .before .before .before .before in
-    let b = s .args .b .now in
-    let r = s .pre .0 in
-    let h : l .k < trees b = omega (arith, i .loop-test .taken, s .pre .2) in
-    let q = part-is b r (l .k) h (p .body-span .result .start) (p .body-span .result .end) (p .body-span .ensures .0) (p .body-span .ensures .1) in
-    ((omega (arith, most-species b r, s .pre .1), rw (q, s .pre .1) (body-good b r (l .k) h), rw q (body-long b r (l .k) h)), (l .inv .4, l .inv .5, l .inv .1))
+    let l = p .before .before .loop in
+    let s = p .before .before .before .before .before .before .before .before .before in
+    (part-good (b p) (r p) (k p) (one-of p) (s .args .n) _ (s .pre .1) (is-body p), (l .inv .4, l .inv .5, l .inv .1))
 
 add-k : tie.Need-add-k Inv-loop μ-loop
 add-k c = search needs
@@ -87,18 +89,13 @@ loop-again : tie.Need-loop-again Inv-loop μ-loop
 loop-again c =
     let t = c .before .before in
     let p = t .before .before .before .before .before in
-    let i = p .before in
-    let l = i .before .loop in
-    let s = i .before .before .before .before .before .before .before .before in
-    let b = s .args .b .now in
-    let r = s .pre .0 in
-    let h : l .k < trees b = omega (arith, i .loop-test .taken, s .pre .2) in
-    let q = part-is b r (l .k) h (p .body-span .result .start) (p .body-span .result .end) (p .body-span .ensures .0) (p .body-span .ensures .1) in
+    let l = p .before .before .loop in
+    let s = p .before .before .before .before .before .before .before .before .before in
     let a = t .tree .ensures .3 in (
-      omega (arith, i .loop-test .taken),
+      omega (arith, p .before .loop-test .taken),
       t .tree .ensures .2,
       a .small (l .inv .2),
-      rw (add-one (l .k)) (said-next b r (l .k) h (s .args .n) _ (l .t) _ (s .pre .1) q (l .inv .3) a),
+      rw (add-one (l .k)) (said-next (b p) (r p) (k p) (one-of p) (s .args .n) _ (l .t) _ (s .pre .1) (is-body p) (l .inv .3) a),
       t .tree .ensures .0,
       t .tree .ensures .1,
     )
