@@ -10,3 +10,4 @@ pub mod Asked
 pub mod Cells
 pub mod Passes
 pub mod Latest
+pub mod Houses

@@ -8,3 +8,4 @@ pub mod Limits
 pub mod Find
 pub mod Passing
 pub mod Fillings
+pub mod Known
