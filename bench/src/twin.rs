@@ -235,11 +235,7 @@ fn stamp(g: u64, out: &mut [u64; 4096]) {
 
 // The smallest common group of each two species: the last group that has both.
 fn pairs(body: &[u8], groups: &[u64; 127], out: &mut [u64; 4096]) {
-    let mut i = 0;
-    while i < 4096 {
-        out[i] = 0;
-        i += 1;
-    }
+    *out = [0; 4096];
     let count = node_count(body);
     let mut node = 0;
     while node < count {
@@ -289,19 +285,9 @@ fn index(a: usize, b: usize, c: usize) -> usize {
     c * (c - 1) * (c - 2) / 6 + b * (b - 1) / 2 + a
 }
 
-// Enters ab|c, the three species in any order.
-fn put(t: &mut [u8], a: usize, b: usize, c: usize) {
-    let low = a.min(b.min(c));
-    let high = a.max(b.max(c));
-    let i = index(low, a + b + c - (low + high), high);
-    let bit = if a.max(b) < c {
-        1
-    } else if a.min(b) < c {
-        2
-    } else {
-        4
-    };
-    t[i] |= bit;
+// Adds a bit to the byte of the triple a < b < c: 1 for ab|c, 2 for ac|b, 4 for bc|a.
+fn add_bit(t: &mut [u8], a: usize, b: usize, c: usize, bit: u8) {
+    t[index(a, b, c)] |= bit;
 }
 
 fn enter_tree(n: usize, body: &[u8], groups: &mut [u64; 127], meets: &mut [u64; 4096], t: &mut [u8]) {
@@ -315,9 +301,9 @@ fn enter_tree(n: usize, body: &[u8], groups: &mut [u64; 127], meets: &mut [u64; 
             let mut a = 0;
             while a < b {
                 match ask(whole, meets, a, b, c) {
-                    Says::AB => put(t, a, b, c),
-                    Says::AC => put(t, a, c, b),
-                    Says::BC => put(t, b, c, a),
+                    Says::AB => add_bit(t, a, b, c, 1),
+                    Says::AC => add_bit(t, a, b, c, 2),
+                    Says::BC => add_bit(t, a, b, c, 4),
                     Says::Nothing => {}
                 }
                 a += 1;

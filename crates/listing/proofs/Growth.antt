@@ -96,17 +96,6 @@ module _ (t : List ℕ) (a b c : ℕ) (p : a < b) (q : b < c) (l : index a b c <
   d-bc : So (different b c a)
   d-bc = different-i b c a (λ e. omega arith) (λ e. omega arith) (λ e. omega arith)
 
-  -- each of them has its place in the table
-  module _ (h : c < 64) where
-    pub room-ab : So (different a b c) × (a < 64) × (b < 64) × (c < 64) × (placeOf a b c < length t)
-    room-ab = (d-ab, omega arith, omega arith, h, rw (place-ab a b c p q) l)
-
-    pub room-ac : So (different a c b) × (a < 64) × (c < 64) × (b < 64) × (placeOf a c b < length t)
-    room-ac = (d-ac, omega arith, h, omega arith, rw (place-ac a b c p q) l)
-
-    pub room-bc : So (different b c a) × (b < 64) × (c < 64) × (a < 64) × (placeOf b c a < length t)
-    room-bc = (d-bc, omega arith, h, omega arith, rw (place-bc a b c p q) l)
-
   -- entering one of them, and asking for one of them
   beside : (x y z u v w j k : ℕ) → So (different x y z) → So (different u v w) → placeOf x y z ≡ index a b c → placeOf u v w ≡ index a b c → bitOf x y z ≡ j → bitOf u v w ≡ k
       → entered (enter t x y z) u v w ≡ (entered t u v w || eqb j k)

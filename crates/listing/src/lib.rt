@@ -27,13 +27,13 @@ fn note(s: bodies::Says, a: usize, b: usize, c: usize, t: &mut [u8])
 {
     match s {
         bodies::Says::AB => {
-            tables::put(t, a, b, c);
+            tables::put_ab(t, a, b, c);
         }
         bodies::Says::AC => {
-            tables::put(t, a, c, b);
+            tables::put_ac(t, a, b, c);
         }
         bodies::Says::BC => {
-            tables::put(t, b, c, a);
+            tables::put_bc(t, a, b, c);
         }
         bodies::Says::Nothing => {}
     }

@@ -1,12 +1,12 @@
 // Triples of species, their indices, and the table of entered triplets.
 ghost use mathlib.Core.Path.{_≡_};
 ghost use Prim.Native.Nat.{_<_, _≤_, min, max};
-ghost use lib.ListN.{length, replicate};
+ghost use lib.ListN.{length, replicate, getD, set};
 ghost use mathlib.Core.Bool.{So};
-ghost use Rattle.sets.specs.Sets.{single};
+ghost use Rattle.sets.specs.Sets.{single, union};
 ghost use Rattle.trees.specs.Triplets.{different};
 ghost use Rattle.tables.specs.Index.{C, index, low, mid, high, largest};
-ghost use Rattle.tables.specs.Bytes.{fits, over, placeOf, bitOf, entered, Byte, Entered};
+ghost use Rattle.tables.specs.Bytes.{fits, over, placeOf, bitOf, entered, enter, Byte, Entered};
 ghost use Rattle.tables.specs.Named.{named};
 
 // The highest byte that a table may hold.
@@ -202,6 +202,39 @@ pub fn put(t: &mut [u8], a: usize, b: usize, c: usize)
     let s = spot(a, b, c);
     let i = s.place;
     t[i] = t[i] | s.bit;
+}
+
+// Adds a bit to the byte of the triple a < b < c.
+fn add_bit(t: &mut [u8], a: usize, b: usize, c: usize, bit: u8)
+    requires { ⌜ (a < b) × (b < c) × (c < 64) × (index a b c < length (now t)) ⌝ }
+    ensures { λ _. ⌜ now (t .exit) ≡ set (now (t .entry)) (index a b c) (union (getD (now (t .entry)) (index a b c) 0) bit) ⌝ }
+{
+    let i = index(a, b, c);
+    t[i] = t[i] | bit;
+}
+
+// Enters ab|c for a < b < c, which needs no sorting; so do the next two.
+pub fn put_ab(t: &mut [u8], a: usize, b: usize, c: usize)
+    requires { ⌜ (a < b) × (b < c) × (c < 64) × (index a b c < length (now t)) ⌝ }
+    ensures { λ _. ⌜ now (t .exit) ≡ enter (now (t .entry)) a b c ⌝ }
+{
+    add_bit(t, a, b, c, 1);
+}
+
+// Enters ac|b.
+pub fn put_ac(t: &mut [u8], a: usize, b: usize, c: usize)
+    requires { ⌜ (a < b) × (b < c) × (c < 64) × (index a b c < length (now t)) ⌝ }
+    ensures { λ _. ⌜ now (t .exit) ≡ enter (now (t .entry)) a c b ⌝ }
+{
+    add_bit(t, a, b, c, 2);
+}
+
+// Enters bc|a.
+pub fn put_bc(t: &mut [u8], a: usize, b: usize, c: usize)
+    requires { ⌜ (a < b) × (b < c) × (c < 64) × (index a b c < length (now t)) ⌝ }
+    ensures { λ _. ⌜ now (t .exit) ≡ enter (now (t .entry)) b c a ⌝ }
+{
+    add_bit(t, a, b, c, 4);
 }
 
 // Takes everything out: a table of zeros.

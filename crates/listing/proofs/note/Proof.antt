@@ -1,8 +1,7 @@
--- Each answer enters its triplet, which has its place in the table. Assumes nothing.
+-- Each answer enters its triplet. Assumes nothing.
 use mathlib.Core.Path.{_∙_, ap, sym}
 use borrow.Author.Needs.{needs}
 use Rattle.bodies.specs.declared.Says.{Says}
-use Rattle.listing.proofs.Growth.{room-ab, room-ac, room-bc}
 use Rattle.listing.specs.Adds.{noted}
 use Rattle.listing.proofs.note.Statement.{statement}
 use Rattle.listing.proofs.note.Tie as tie
@@ -10,26 +9,20 @@ use Rattle.listing.proofs.note.Tie as tie
 enum-told : tie.Need-enum-told
 enum-told c = search needs
 
-put-requires : tie.Need-put-requires
-put-requires c κs =
-    let s = c .before .before .before .before in
-    room-ab (s .args .t .now) (s .args .a) (s .args .b) (s .args .c) (s .pre .0) (s .pre .1) (s .pre .3) (s .pre .2)
+put-ab-requires : tie.Need-put-ab-requires
+put-ab-requires c κs = search needs
 
 enum-told-2 : tie.Need-enum-told-2
 enum-told-2 c = search needs
 
-put-requires-2 : tie.Need-put-requires-2
-put-requires-2 c κs =
-    let s = c .before .before .before .before in
-    room-ac (s .args .t .now) (s .args .a) (s .args .b) (s .args .c) (s .pre .0) (s .pre .1) (s .pre .3) (s .pre .2)
+put-ac-requires : tie.Need-put-ac-requires
+put-ac-requires c κs = search needs
 
 enum-told-3 : tie.Need-enum-told-3
 enum-told-3 c = search needs
 
-put-requires-3 : tie.Need-put-requires-3
-put-requires-3 c κs =
-    let s = c .before .before .before .before in
-    room-bc (s .args .t .now) (s .args .a) (s .args .b) (s .args .c) (s .pre .0) (s .pre .1) (s .pre .3) (s .pre .2)
+put-bc-requires : tie.Need-put-bc-requires
+put-bc-requires c κs = search needs
 
 enum-told-4 : tie.Need-enum-told-4
 enum-told-4 c = search needs
@@ -43,7 +36,7 @@ returns c =
     let p = c .before .before in
     let e = p .before .before in
     let s = e .before .before .before in
-    p .put .ensures .is ∙ sym (ap (λ (w : Says). noted w (s .args .t .now) (s .args .a) (s .args .b) (s .args .c)) (e .enum-told .given .1))
+    p .put-ab .ensures ∙ sym (ap (λ (w : Says). noted w (s .args .t .now) (s .args .a) (s .args .b) (s .args .c)) (e .enum-told .given .1))
 
 same-length-2 : tie.Need-same-length-2
 same-length-2 c = search needs
@@ -54,7 +47,7 @@ returns-2 c =
     let p = c .before .before in
     let e = p .before .before in
     let s = e .before .before .before in
-    p .put2 .ensures .is ∙ sym (ap (λ (w : Says). noted w (s .args .t .now) (s .args .a) (s .args .b) (s .args .c)) (e .enum-told2 .given .1))
+    p .put-ac .ensures ∙ sym (ap (λ (w : Says). noted w (s .args .t .now) (s .args .a) (s .args .b) (s .args .c)) (e .enum-told2 .given .1))
 
 same-length-3 : tie.Need-same-length-3
 same-length-3 c = search needs
@@ -65,7 +58,7 @@ returns-3 c =
     let p = c .before .before in
     let e = p .before .before in
     let s = e .before .before .before in
-    p .put3 .ensures .is ∙ sym (ap (λ (w : Says). noted w (s .args .t .now) (s .args .a) (s .args .b) (s .args .c)) (e .enum-told3 .given .1))
+    p .put-bc .ensures ∙ sym (ap (λ (w : Says). noted w (s .args .t .now) (s .args .a) (s .args .b) (s .args .c)) (e .enum-told3 .given .1))
 
 returns-4 : tie.Need-returns-4
 unfolding noted
@@ -78,11 +71,11 @@ note-spec =
     tie.close
     (tie.spec
     enum-told
-    put-requires
+    put-ab-requires
     enum-told-2
-    put-requires-2
+    put-ac-requires
     enum-told-3
-    put-requires-3
+    put-bc-requires
     enum-told-4
     same-length
     returns
