@@ -12,13 +12,26 @@ use std::time::Duration;
 const SEED: u64 = 20_071;
 const N: u8 = 64;
 const ROOM: usize = 41_664;
+const BODY_ROOM: usize = 254;
 const TWIN_LIMIT: f64 = 1.3;
+const ORDER_LIMIT: f64 = 1.5;
 const TREES_LIMIT: f64 = 17.0;
 const ROUNDS: usize = 301;
 const SAMPLE: Duration = Duration::from_micros(1_000);
 
 type Read = fn(&[u8], &mut [usize]) -> usize;
 type List = fn(&[u8], &mut [u8], &mut [usize]) -> usize;
+
+// Putting in house order, or building: from n and a body or a table to a body.
+type Make = fn(usize, &[u8], &mut [u8], &mut [usize]) -> usize;
+
+struct Run {
+    shape: Shape,
+    tree: Vec<u8>,
+    table: Vec<u8>,
+    one: Vec<u8>,
+    sixteen: Vec<u8>,
+}
 
 fn median(mut xs: Vec<f64>) -> f64 {
     xs.sort_by(f64::total_cmp);
@@ -84,6 +97,15 @@ fn listing<'a>(list: List, bytes: &'a [u8]) -> impl FnMut() + 'a {
     }
 }
 
+fn making<'a>(make: Make, bytes: &'a [u8]) -> impl FnMut() + 'a {
+    let mut room = vec![0; BODY_ROOM];
+    let mut values = [0; 4];
+    move || {
+        black_box(make(N as usize, black_box(bytes), &mut room, &mut values));
+        black_box(&room);
+    }
+}
+
 // What both calls answer, on a table and values that held something else.
 fn answers(read: Read, list: List, bytes: &[u8]) -> (usize, [usize; 4], usize, [usize; 4], Vec<u8>) {
     let (mut values, mut list_values, mut table) = ([77; 4], [77; 4], vec![0xa5; ROOM]);
@@ -92,42 +114,68 @@ fn answers(read: Read, list: List, bytes: &[u8]) -> (usize, [usize; 4], usize, [
     (number, values, list_number, list_values, table)
 }
 
-fn main() {
-    let runs: Vec<(Shape, Vec<u8>, Vec<u8>)> = SHAPES
-        .iter()
-        .map(|&shape| {
-            let mut dice = Dice(SEED);
-            let species = if shape == Shape::Random { shuffled(N, &mut dice) } else { (0..N).collect() };
-            let tree = body(shape, &species, &mut dice);
-            (shape, collection(N, &[tree.clone()]), collection(N, &vec![tree; 16]))
-        })
-        .collect();
+// What is made, in a room and values that held something else.
+fn made(make: Make, bytes: &[u8]) -> (usize, [usize; 4], Vec<u8>) {
+    let (mut values, mut room) = ([77; 4], vec![0xa5; BODY_ROOM]);
+    (make(N as usize, bytes, &mut room, &mut values), values, room)
+}
 
-    for (shape, one, sixteen) in &runs {
-        for bytes in [one, sixteen] {
+fn run(shape: Shape) -> Run {
+    let mut dice = Dice(SEED);
+    let species = if shape == Shape::Random { shuffled(N, &mut dice) } else { (0..N).collect() };
+    let tree = body(shape, &species, &mut dice);
+    let one = collection(N, &[tree.clone()]);
+    let sixteen = collection(N, &vec![tree.clone(); 16]);
+    let mut table = vec![0; ROOM];
+    twin::list(&one, &mut table, &mut []);
+    Run { shape, tree, table, one, sixteen }
+}
+
+fn differ(shape: Shape) -> ! {
+    println!("{shape:?}: the library and the twin do not both answer 0 with the same values and bytes");
+    std::process::exit(1);
+}
+
+fn main() {
+    let runs: Vec<Run> = SHAPES.iter().map(|&shape| run(shape)).collect();
+
+    for run in &runs {
+        for bytes in [&run.one, &run.sixteen] {
             let wanted = answers(twin::read, twin::list, bytes);
             if wanted.0 != 0 || wanted != answers(boundary::read, boundary::list, bytes) {
-                println!("{shape:?}: the library and the twin do not both answer 0 with the same values and table");
-                std::process::exit(1);
+                differ(run.shape);
             }
+        }
+        let house = made(twin::order, &run.tree);
+        if house.0 != 0 || house != made(boundary::order, &run.tree) {
+            differ(run.shape);
+        }
+        // The tree built from a tree's own table is that tree.
+        if house != made(twin::build, &run.table) || house != made(boundary::build, &run.table) {
+            differ(run.shape);
         }
     }
     println!("64 species; 16 trees are the same tree 16 times; the table is not cleared before a call, which fills all of it.");
+    println!("A tree is put in house order, and built from the table of its own triplets.");
     println!("Medians of {ROUNDS} rounds, the two in turn, in processor time; the ratio is the median of the rounds' ratios.");
     println!("The answers of library and twin are the same.");
 
     println!("library against twin:");
     let mut met = true;
-    for (shape, one, sixteen) in &runs {
+    for Run { shape, tree, table, one, sixteen } in &runs {
         for (count, bytes) in [(1, one), (16, sixteen)] {
             let name = format!("read {count} {shape:?}");
             met &= within(&name, TWIN_LIMIT, &mut reading(boundary::read, bytes), &mut reading(twin::read, bytes));
         }
         let name = format!("list 1 {shape:?}");
         met &= within(&name, TWIN_LIMIT, &mut listing(boundary::list, one), &mut listing(twin::list, one));
+        let name = format!("order {shape:?}");
+        met &= within(&name, ORDER_LIMIT, &mut making(boundary::order, tree), &mut making(twin::order, tree));
+        let name = format!("build {shape:?}");
+        met &= within(&name, TWIN_LIMIT, &mut making(boundary::build, table), &mut making(twin::build, table));
     }
     println!("library, 16 trees against one tree:");
-    for (shape, one, sixteen) in &runs {
+    for Run { shape, one, sixteen, .. } in &runs {
         let name = format!("list 16 against 1, {shape:?}");
         met &= within(&name, TREES_LIMIT, &mut listing(boundary::list, sixteen), &mut listing(boundary::list, one));
     }

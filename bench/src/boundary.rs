@@ -14,6 +14,10 @@ extern "C" {
         values: *mut usize,
         values_len: usize,
     ) -> usize;
+
+    fn koodhaxil_order(n: usize, body: *const u8, body_len: usize, room: *mut u8, room_len: usize, values: *mut usize, values_len: usize) -> usize;
+
+    fn koodhaxil_build(n: usize, t: *const u8, t_len: usize, room: *mut u8, room_len: usize, values: *mut usize, values_len: usize) -> usize;
 }
 
 /// Reads a collection: document 01's number, with what is returned beside it laid into `values`.
@@ -33,4 +37,16 @@ pub fn list(b: &[u8], t: &mut [u8], values: &mut [usize]) -> usize {
 pub fn enter(n: usize, records: &[[u8; 3]], t: &mut [u8], values: &mut [usize]) -> usize {
     // SAFETY: as above; the length of `records` is their number.
     unsafe { koodhaxil_enter(n, records.as_ptr(), records.len(), t.as_mut_ptr(), t.len(), values.as_mut_ptr(), values.len()) }
+}
+
+/// Puts the tree of a body over `n` species in house order, into the front of `room`: the number and the values as for `read`.
+pub fn order(n: usize, body: &[u8], room: &mut [u8], values: &mut [usize]) -> usize {
+    // SAFETY: as above.
+    unsafe { koodhaxil_order(n, body.as_ptr(), body.len(), room.as_mut_ptr(), room.len(), values.as_mut_ptr(), values.len()) }
+}
+
+/// Builds the tree of the table `t` over `n` species, into the front of `room`: the number and the values as for `read`.
+pub fn build(n: usize, t: &[u8], room: &mut [u8], values: &mut [usize]) -> usize {
+    // SAFETY: as above.
+    unsafe { koodhaxil_build(n, t.as_ptr(), t.len(), room.as_mut_ptr(), room.len(), values.as_mut_ptr(), values.len()) }
 }

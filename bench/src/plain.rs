@@ -1,6 +1,7 @@
 // A second implementation, from document 01 alone and by another way: a tree is a nest of lists, a triplet is held where a scan of all groups finds
-// one with a and b and without c, an entered one where a scan of all records finds it, and the table is written from its first byte to its last,
-// without an index.
+// one with a and b and without c, an entered one where a scan of all records finds it, and the table is written and read from its first byte to its
+// last, without an index. House order comes from sorting the nest when it is written. Building turns the table into a list of triplets, and joins
+// lists of species for each triplet that has its three in the set.
 
 pub struct Told {
     pub number: usize,
@@ -107,18 +108,74 @@ fn holds(groups: &[Group], a: usize, b: usize, c: usize) -> bool {
     groups[groups.len() - 1][c] && groups.iter().any(|g| g[a] && g[b] && !g[c])
 }
 
-// The table over n species that says the triplets ab|c for which `says` is true of a, b and c.
-fn table_of(n: usize, says: impl Fn(usize, usize, usize) -> bool) -> Vec<u8> {
-    let bit = |x, y, z, value| if says(x, y, z) { value } else { 0 };
-    let mut table = Vec::new();
+// The triples of n species, in the order of the table.
+fn triples(n: usize) -> Vec<[usize; 3]> {
+    let mut triples = Vec::new();
     for c in 0..n {
         for b in 0..c {
             for a in 0..b {
-                table.push(bit(a, b, c, 1) + bit(a, c, b, 2) + bit(b, c, a, 4));
+                triples.push([a, b, c]);
             }
         }
     }
-    table
+    triples
+}
+
+// The table over n species that says the triplets ab|c for which `says` is true of a, b and c.
+fn table_of(n: usize, says: impl Fn(usize, usize, usize) -> bool) -> Vec<u8> {
+    let bit = |x, y, z, value| if says(x, y, z) { value } else { 0 };
+    triples(n).into_iter().map(|[a, b, c]| bit(a, b, c, 1) + bit(a, c, b, 2) + bit(b, c, a, 4)).collect()
+}
+
+fn least(tree: &Tree) -> usize {
+    match tree {
+        Tree::Leaf(s) => *s,
+        Tree::Inner(children) => children.iter().map(least).fold(64, usize::min),
+    }
+}
+
+// Writes the tree behind `body`, in house order.
+fn write(tree: &Tree, parent: u8, body: &mut Vec<u8>) {
+    match tree {
+        Tree::Leaf(s) => body.extend([parent, *s as u8]),
+        Tree::Inner(children) => {
+            let node = (body.len() / 2) as u8;
+            body.extend([parent, 255]);
+            let mut sorted: Vec<&Tree> = children.iter().collect();
+            sorted.sort_by_key(|child| least(child));
+            for child in sorted {
+                write(child, node, body);
+            }
+        }
+    }
+}
+
+fn written(tree: &Tree) -> (Told, Option<Vec<u8>>) {
+    let mut body = Vec::new();
+    write(tree, 255, &mut body);
+    (told(0, &[body.len() / 2]), Some(body))
+}
+
+// The tree over a sorted set that holds these triplets [a, b, c] for ab|c, or the first set that stops.
+fn built(set: Vec<usize>, triplets: &[[usize; 3]]) -> Result<Tree, Vec<usize>> {
+    if let [only] = set[..] {
+        return Ok(Tree::Leaf(only));
+    }
+    let inside: Vec<[usize; 3]> = triplets.iter().filter(|triplet| triplet.iter().all(|s| set.contains(s))).copied().collect();
+    let mut parts: Vec<Vec<usize>> = set.iter().map(|&s| vec![s]).collect();
+    for [a, b, _] in &inside {
+        let (joined, others): (Vec<_>, Vec<_>) = parts.into_iter().partition(|part| part.contains(a) || part.contains(b));
+        parts = others;
+        parts.push(joined.concat());
+    }
+    if parts.len() == 1 {
+        return Err(set);
+    }
+    for part in &mut parts {
+        part.sort();
+    }
+    parts.sort();
+    Ok(Tree::Inner(parts.into_iter().map(|part| built(part, &inside)).collect::<Result<_, _>>()?))
 }
 
 pub fn read(b: &[u8]) -> Told {
@@ -163,5 +220,49 @@ pub fn enter(n: usize, records: &[[u8; 3]], room: usize) -> (Told, Option<Vec<u8
     match records.iter().position(|record| (0..n).filter(|s| record.contains(s)).count() < 3) {
         Some(first) => (told(13, &[first]), None),
         None => (told(0, &[n]), Some(table)),
+    }
+}
+
+/// What putting a body over `n` species in house order tells, with `room` bytes to write to, and what is written to their front.
+pub fn order(n: usize, body: &[u8], room: usize) -> (Told, Option<Vec<u8>>) {
+    if !(1..=64).contains(&n) {
+        return (told(2, &[]), None);
+    }
+    if !(1..=254).contains(&body.len()) || body.len() % 2 == 1 {
+        return (told(5, &[0]), None);
+    }
+    match tree_of(body, n) {
+        Err([node, fault, carried]) => (told(6, &[0, node, fault, carried]), None),
+        Ok(_) if room < body.len() => (told(9, &[]), None),
+        Ok(tree) => written(&tree),
+    }
+}
+
+/// What building from a table over `n` species tells, with `room` bytes to write to, and what is written to their front.
+pub fn build(n: usize, table: &[u8], room: usize) -> (Told, Option<Vec<u8>>) {
+    if !(1..=64).contains(&n) {
+        return (told(2, &[]), None);
+    }
+    let triples = triples(n);
+    if table.len() != triples.len() {
+        return (told(7, &[]), None);
+    }
+    if let Some(first) = table.iter().position(|&byte| byte > 7) {
+        return (told(8, &[first]), None);
+    }
+    if room < 4 * n - 2 {
+        return (told(9, &[]), None);
+    }
+    let mut triplets = Vec::new();
+    for (&[a, b, c], byte) in triples.iter().zip(table) {
+        for (bit, triplet) in [(1, [a, b, c]), (2, [a, c, b]), (4, [b, c, a])] {
+            if byte & bit != 0 {
+                triplets.push(triplet);
+            }
+        }
+    }
+    match built((0..n).collect(), &triplets) {
+        Ok(tree) => written(&tree),
+        Err(set) => (told(10, &[set.iter().map(|s| 1 << s).sum()]), None),
     }
 }

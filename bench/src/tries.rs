@@ -1,5 +1,5 @@
-// Tries the library on good and bad input. The answers of the fixed list are written out by hand from document 01; those of the random collections
-// and lists of records come from `plain`. What a call must leave alone holds a pattern before it, and is compared after it.
+// Tries the library on good and bad input. The answers of the fixed list are written out by hand from document 01; those of the random collections,
+// lists of records, bodies and tables come from `plain`. What a call must leave alone holds a pattern before it, and is compared after it.
 
 mod boundary;
 mod plain;
@@ -12,22 +12,27 @@ use std::fmt::Debug;
 const SEED: u64 = 20_071;
 const COLLECTIONS: usize = 100_000;
 const LISTS: usize = 20_000;
+const BODIES: usize = 50_000;
+const TABLES: usize = 50_000;
+const TREES: usize = 5_000;
 const MOST_VALUES: usize = 6;
 const SHOWN: usize = 3;
 
-// What is called, and on what; the last number is the length of the table, where one is lent.
+// What is called, and on what; the last number is the length of the table or room that is lent, where one is.
 #[derive(Clone, Copy)]
 enum Call<'a> {
     Read(&'a [u8]),
     List(&'a [u8], usize),
     Enter(usize, &'a [[u8; 3]], usize),
+    Order(usize, &'a [u8], usize),
+    Build(usize, &'a [u8], usize),
 }
 
 #[derive(PartialEq, Debug)]
 struct Outcome {
     number: usize,
     values: Vec<usize>,
-    table: Vec<u8>,
+    lent: Vec<u8>,
 }
 
 #[derive(Default)]
@@ -38,24 +43,29 @@ struct Tally {
 }
 
 impl Tally {
-    // One call with `places` places for values. The table is to become `filled`, or to stay.
+    // One call with `places` places for values. The front of what is lent is to become `filled`; what is behind it, or all, is to stay.
     fn call(&mut self, name: &str, call: Call, places: usize, told: &Told, filled: Option<&[u8]>) {
         let room = match call {
             Call::Read(_) => 0,
-            Call::List(_, room) | Call::Enter(_, _, room) => room,
+            Call::List(_, room) | Call::Enter(_, _, room) | Call::Order(_, _, room) | Call::Build(_, _, room) => room,
         };
         let mut values: Vec<usize> = (0..places).map(|i| 9_000_000_000 + i).collect();
-        let mut table: Vec<u8> = (0..room).map(|i| (i % 251) as u8 ^ 0xa5).collect();
-        let mut wanted = Outcome { number: told.number, values: values.clone(), table: filled.unwrap_or(&table).to_vec() };
+        let mut lent: Vec<u8> = (0..room).map(|i| (i % 251) as u8 ^ 0xa5).collect();
+        let mut wanted = Outcome { number: told.number, values: values.clone(), lent: lent.clone() };
         for (place, x) in wanted.values.iter_mut().zip(&told.values) {
             *place = *x;
         }
+        if let Some(filled) = filled {
+            wanted.lent[..filled.len()].copy_from_slice(filled);
+        }
         let number = match call {
             Call::Read(bytes) => boundary::read(bytes, &mut values),
-            Call::List(bytes, _) => boundary::list(bytes, &mut table, &mut values),
-            Call::Enter(n, records, _) => boundary::enter(n, records, &mut table, &mut values),
+            Call::List(bytes, _) => boundary::list(bytes, &mut lent, &mut values),
+            Call::Enter(n, records, _) => boundary::enter(n, records, &mut lent, &mut values),
+            Call::Order(n, body, _) => boundary::order(n, body, &mut lent, &mut values),
+            Call::Build(n, table, _) => boundary::build(n, table, &mut lent, &mut values),
         };
-        let got = Outcome { number, values, table };
+        let got = Outcome { number, values, lent };
         self.cases += 1;
         self.part += 1;
         if got != wanted {
@@ -91,13 +101,32 @@ impl Tally {
         self.calls(name, Call::Enter(n, records, table.len()), 0, &[n], Some(table));
     }
 
+    // Rooms of the least length and of some more.
+    fn ordered(&mut self, name: &str, n: usize, body: &[u8], house: &[u8]) {
+        for more in [0, 1, 2, 300] {
+            self.calls(name, Call::Order(n, body, body.len() + more), 0, &[house.len() / 2], Some(house));
+        }
+    }
+
+    fn built(&mut self, name: &str, n: usize, table: &[u8], body: &[u8]) {
+        for more in [0, 1, 2, 300] {
+            self.calls(name, Call::Build(n, table, 4 * n - 2 + more), 0, &[body.len() / 2], Some(body));
+        }
+    }
+
+    fn no_tree(&mut self, name: &str, n: usize, table: &[u8], set: usize) {
+        for more in [0, 1, 300] {
+            self.calls(name, Call::Build(n, table, 4 * n - 2 + more), 10, &[set], None);
+        }
+    }
+
     fn end_part(&mut self, what: &str) {
         println!("{what}: {} cases", self.part);
         self.part = 0;
     }
 }
 
-// The longest collection has 4,099 bytes; what is longer is one of the fixed list, known by its name.
+// The longest collection has 4,099 bytes; what is longer is one of the fixed list, known by its name, or a random table of over 30 species.
 fn start<T: Debug>(items: &[T]) -> String {
     format!("{:?}{}", &items[..items.len().min(4200)], if items.len() > 4200 { " and so on" } else { "" })
 }
@@ -108,14 +137,16 @@ fn show(name: &str, call: Call, places: usize, wanted: &Outcome, got: &Outcome) 
         Call::Read(bytes) => ("read".to_string(), bytes.len(), start(bytes)),
         Call::List(bytes, room) => (format!("list, table of {room} bytes"), bytes.len(), start(bytes)),
         Call::Enter(n, records, room) => (format!("enter, n {n}, table of {room} bytes"), records.len(), start(records)),
+        Call::Order(n, body, room) => (format!("order, n {n}, room of {room} bytes"), body.len(), start(body)),
+        Call::Build(n, table, room) => (format!("build, n {n}, room of {room} bytes"), table.len(), start(table)),
     };
     println!("  call: {what}, {places} places for values");
     println!("  {length} long: {items}");
     println!("  wanted: number {}, values {:?}", wanted.number, wanted.values);
     println!("  got:    number {}, values {:?}", got.number, got.values);
-    let places: Vec<usize> = (0..wanted.table.len()).filter(|&i| wanted.table[i] != got.table[i]).collect();
+    let places: Vec<usize> = (0..wanted.lent.len()).filter(|&i| wanted.lent[i] != got.lent[i]).collect();
     if let Some(&i) = places.first() {
-        println!("  table: {} bytes differ, the first at {i}: wanted {}, got {}", places.len(), wanted.table[i], got.table[i]);
+        println!("  table or room: {} bytes differ, the first at {i}: wanted {}, got {}", places.len(), wanted.lent[i], got.lent[i]);
     }
 }
 
@@ -175,39 +206,40 @@ fn header_and_lengths(tally: &mut Tally) {
     tally.end_part("header and lengths, refused");
 }
 
+// Of one tree: name, n, body; then node, fault (1 bad parent, 2 bad species, 3 seen before, 4 only child) and what the fault carries.
+const BROKEN: [(&str, u8, &[u8], [usize; 3]); 28] = [
+    ("node 0 has parent 0", 1, &[0, 0], [0, 1, 0]),
+    ("node 0 has parent 254", 2, &[254, 255, 0, 0, 0, 1], [0, 1, 254]),
+    ("a later node has parent 255", 2, &[255, 255, 0, 0, 255, 1], [2, 1, 255]),
+    ("node 1 is its own parent", 2, &[255, 255, 1, 0, 0, 1], [1, 1, 1]),
+    ("node 2 is its own parent", 2, &[255, 255, 0, 0, 2, 1], [2, 1, 2]),
+    ("a parent is a later node", 2, &[255, 255, 2, 0, 0, 1], [1, 1, 2]),
+    ("a parent is no node", 2, &[255, 255, 0, 0, 99, 1], [2, 1, 99]),
+    ("a leaf is a parent of one", 3, &[255, 255, 0, 0, 0, 1, 1, 2], [1, 2, 0]),
+    ("a leaf is a parent of two", 4, &[255, 255, 0, 0, 0, 1, 2, 2, 2, 3], [2, 2, 1]),
+    ("the root has children and a species", 2, &[255, 1, 0, 0, 0, 1], [0, 2, 1]),
+    ("a species twice", 2, &[255, 255, 0, 0, 0, 0], [2, 3, 1]),
+    ("a species twice, far apart", 4, &[255, 255, 0, 3, 0, 255, 2, 0, 2, 1, 0, 2, 0, 3], [6, 3, 1]),
+    ("a species three times", 3, &[255, 255, 0, 2, 0, 2, 0, 2], [2, 3, 1]),
+    ("255 255 alone", 4, &[255, 255], [0, 2, 255]),
+    ("species n", 4, &[255, 4], [0, 2, 4]),
+    ("species 64 of 64", 64, &[255, 64], [0, 2, 64]),
+    ("species 1 of 1", 1, &[255, 255, 0, 0, 0, 1], [2, 2, 1]),
+    ("an inner node without children", 2, &[255, 255, 0, 0, 0, 255], [2, 2, 255]),
+    ("only child at the root", 4, &[255, 255, 0, 0], [0, 4, 0]),
+    ("only child deep down", 3, &[255, 255, 0, 0, 0, 255, 2, 1, 2, 255, 4, 2], [4, 4, 0]),
+    ("one node: bad parent and bad species", 2, &[255, 255, 0, 0, 9, 9], [2, 1, 9]),
+    ("one node: bad species and only child", 3, &[255, 255, 0, 0, 0, 7, 2, 1], [2, 2, 7]),
+    ("one node: bad species, the same as before", 2, &[255, 255, 0, 0, 0, 0, 2, 1], [2, 2, 0]),
+    ("two nodes: bad species, then bad parent", 2, &[255, 255, 0, 9, 255, 0], [2, 1, 255]),
+    ("two nodes: only child, then bad species", 2, &[255, 255, 0, 9], [0, 4, 0]),
+    ("two nodes: seen before, then bad species", 2, &[255, 255, 0, 0, 0, 0, 0, 9], [2, 3, 1]),
+    ("two nodes: bad species, then seen before", 2, &[255, 255, 0, 9, 0, 0, 0, 0], [1, 2, 9]),
+    ("two nodes: only child, then seen before", 2, &[255, 255, 0, 255, 0, 0, 1, 0], [1, 4, 0]),
+];
+
 fn broken_rules(tally: &mut Tally) {
-    // Of one tree: name, n, body; then node, fault (1 bad parent, 2 bad species, 3 seen before, 4 only child) and what the fault carries.
-    let bodies: [(&str, u8, &[u8], [usize; 3]); 28] = [
-        ("node 0 has parent 0", 1, &[0, 0], [0, 1, 0]),
-        ("node 0 has parent 254", 2, &[254, 255, 0, 0, 0, 1], [0, 1, 254]),
-        ("a later node has parent 255", 2, &[255, 255, 0, 0, 255, 1], [2, 1, 255]),
-        ("node 1 is its own parent", 2, &[255, 255, 1, 0, 0, 1], [1, 1, 1]),
-        ("node 2 is its own parent", 2, &[255, 255, 0, 0, 2, 1], [2, 1, 2]),
-        ("a parent is a later node", 2, &[255, 255, 2, 0, 0, 1], [1, 1, 2]),
-        ("a parent is no node", 2, &[255, 255, 0, 0, 99, 1], [2, 1, 99]),
-        ("a leaf is a parent of one", 3, &[255, 255, 0, 0, 0, 1, 1, 2], [1, 2, 0]),
-        ("a leaf is a parent of two", 4, &[255, 255, 0, 0, 0, 1, 2, 2, 2, 3], [2, 2, 1]),
-        ("the root has children and a species", 2, &[255, 1, 0, 0, 0, 1], [0, 2, 1]),
-        ("a species twice", 2, &[255, 255, 0, 0, 0, 0], [2, 3, 1]),
-        ("a species twice, far apart", 4, &[255, 255, 0, 3, 0, 255, 2, 0, 2, 1, 0, 2, 0, 3], [6, 3, 1]),
-        ("a species three times", 3, &[255, 255, 0, 2, 0, 2, 0, 2], [2, 3, 1]),
-        ("255 255 alone", 4, &[255, 255], [0, 2, 255]),
-        ("species n", 4, &[255, 4], [0, 2, 4]),
-        ("species 64 of 64", 64, &[255, 64], [0, 2, 64]),
-        ("species 1 of 1", 1, &[255, 255, 0, 0, 0, 1], [2, 2, 1]),
-        ("an inner node without children", 2, &[255, 255, 0, 0, 0, 255], [2, 2, 255]),
-        ("only child at the root", 4, &[255, 255, 0, 0], [0, 4, 0]),
-        ("only child deep down", 3, &[255, 255, 0, 0, 0, 255, 2, 1, 2, 255, 4, 2], [4, 4, 0]),
-        ("one node: bad parent and bad species", 2, &[255, 255, 0, 0, 9, 9], [2, 1, 9]),
-        ("one node: bad species and only child", 3, &[255, 255, 0, 0, 0, 7, 2, 1], [2, 2, 7]),
-        ("one node: bad species, the same as before", 2, &[255, 255, 0, 0, 0, 0, 2, 1], [2, 2, 0]),
-        ("two nodes: bad species, then bad parent", 2, &[255, 255, 0, 9, 255, 0], [2, 1, 255]),
-        ("two nodes: only child, then bad species", 2, &[255, 255, 0, 9], [0, 4, 0]),
-        ("two nodes: seen before, then bad species", 2, &[255, 255, 0, 0, 0, 0, 0, 9], [2, 3, 1]),
-        ("two nodes: bad species, then seen before", 2, &[255, 255, 0, 9, 0, 0, 0, 0], [1, 2, 9]),
-        ("two nodes: only child, then seen before", 2, &[255, 255, 0, 255, 0, 0, 1, 0], [1, 4, 0]),
-    ];
-    for (name, n, body, [node, fault, carried]) in bodies {
+    for (name, n, body, [node, fault, carried]) in BROKEN {
         tally.refused(name, &one(n, body), 6, &[0, node, fault, carried]);
     }
     let leaf = vec![255, 0];
@@ -284,10 +316,13 @@ fn tables_and_long_strings(tally: &mut Tally) {
     tally.end_part("strings of some megabytes");
 }
 
+// n 0 or over 64; 260 is 4 in one byte, and 4,294,967,300 is 4 in four bytes.
+const BAD_COUNTS: [usize; 9] = [0, 65, 66, 255, 256, 260, 4_294_967_300, 1 << 63, usize::MAX];
+
 fn lists_refused(tally: &mut Tally) {
-    // 260 is 4 in one byte, and 4,294,967,300 is 4 in four bytes. The last list is bad over any n.
+    // The last list is bad over any n.
     let lists: [&[[u8; 3]]; 3] = [&[], &[[0, 1, 2]], &[[0, 1, 2], [0, 0, 255]]];
-    for n in [0, 65, 66, 255, 256, 260, 4_294_967_300, 1 << 63, usize::MAX] {
+    for n in BAD_COUNTS {
         for records in lists {
             for room in [0, 4, 5, 41_664, 43_680] {
                 tally.calls("n 0 or over 64", Call::Enter(n, records, room), 2, &[], None);
@@ -353,6 +388,220 @@ fn lists_entered(tally: &mut Tally) {
     tally.end_part("lists of records, tables written out");
 }
 
+// ((((0,1),2),3)..,63) in house order: the inner nodes, the leaf 0, and each further leaf one node higher up.
+fn nested_house() -> Vec<u8> {
+    let mut house = vec![255, 255];
+    for inner in 1..63 {
+        house.extend([inner - 1, 255]);
+    }
+    house.extend([62, 0]);
+    for s in 1..64 {
+        house.extend([63 - s, s]);
+    }
+    house
+}
+
+// ((0,1),2,(3,(4,5))), of document 01's run with n = 6.
+const SIX: [u8; 20] = [255, 255, 0, 255, 1, 0, 1, 1, 0, 2, 0, 255, 5, 3, 5, 255, 7, 4, 7, 5];
+
+fn bodies_refused(tally: &mut Tally) {
+    // An empty body, an odd one, a broken one and a good one: n comes first.
+    let bodies: [&[u8]; 4] = [&[], &[255, 0, 0], &[9, 9], &LADDER];
+    for n in BAD_COUNTS {
+        for body in bodies {
+            for room in [0, 13, 14, 300] {
+                tally.calls("n 0 or over 64", Call::Order(n, body, room), 2, &[], None);
+            }
+        }
+    }
+    // A body that starts well, up to each bad length; 258 is 2 in one byte, and 65,538 is 2 in two bytes.
+    let mut long = nested_house();
+    long.resize(65_538, 255);
+    for length in [0, 1, 3, 5, 127, 253, 255, 256, 257, 258, 512, 65_536, 65_538] {
+        for room in [0, 2, length, 300] {
+            tally.calls("a body of a bad length", Call::Order(64, &long[..length], room), 5, &[0], None);
+        }
+    }
+    tally.calls("an odd length and a bad parent", Call::Order(4, &[9, 9, 9], 300), 5, &[0], None);
+    tally.calls("256 bytes of 0", Call::Order(4, &[0; 256], 300), 5, &[0], None);
+    // With no room at all a broken tree is still 6.
+    for (name, n, body, [node, fault, carried]) in BROKEN {
+        for room in [0, body.len() - 1, body.len(), 300] {
+            tally.calls(name, Call::Order(n as usize, body, room), 6, &[0, node, fault, carried], None);
+        }
+    }
+    for room in [0, 1] {
+        tally.calls("the lone leaf, room too short", Call::Order(64, &[255, 63], room), 9, &[], None);
+    }
+    for room in [0, 1, 2, 12, 13] {
+        tally.calls("(((0,1),2),3), room too short", Call::Order(4, &LADDER, room), 9, &[], None);
+    }
+    for room in [0, 2, 252, 253] {
+        tally.calls("254 bytes, room too short", Call::Order(64, &nested_house(), room), 9, &[], None);
+    }
+    tally.end_part("bodies to put in house order, refused");
+}
+
+fn bodies_ordered(tally: &mut Tally) {
+    tally.ordered("the lone leaf", 1, &[255, 0], &[255, 0]);
+    tally.ordered("the lone leaf 63 of 64", 64, &[255, 63], &[255, 63]);
+    let pair = [255, 255, 0, 0, 0, 1];
+    tally.ordered("(0,1)", 2, &pair, &pair);
+    tally.ordered("(1,0)", 2, &[255, 255, 0, 1, 0, 0], &pair);
+    let fan = [255, 255, 0, 0, 0, 1, 0, 2];
+    for [x, y, z] in [[0, 1, 2], [0, 2, 1], [1, 0, 2], [1, 2, 0], [2, 0, 1], [2, 1, 0]] {
+        tally.ordered("a fan", 3, &[255, 255, 0, x, 0, y, 0, z], &fan);
+    }
+    tally.ordered("(((0,1),2),3)", 4, &LADDER, &LADDER);
+    tally.ordered("(3,(2,(1,0)))", 4, &[255, 255, 0, 3, 0, 255, 2, 2, 2, 255, 4, 1, 4, 0], &LADDER);
+    tally.ordered("(((0,1),2),3), level by level", 4, &[255, 255, 0, 255, 0, 3, 1, 2, 1, 255, 4, 1, 4, 0], &LADDER);
+    let halves = [255, 255, 0, 255, 1, 0, 1, 1, 0, 255, 4, 2, 4, 3];
+    tally.ordered("((0,1),(2,3)), level by level", 4, &[255, 255, 0, 255, 0, 255, 1, 0, 1, 1, 2, 2, 2, 3], &halves);
+    tally.ordered("((3,2),(1,0)), leaves in turn", 4, &[255, 255, 0, 255, 0, 255, 1, 3, 2, 1, 1, 2, 2, 0], &halves);
+    let crossed = [255, 255, 0, 255, 1, 0, 1, 3, 0, 255, 4, 1, 4, 2];
+    tally.ordered("((2,1),(0,3))", 4, &[255, 255, 0, 255, 0, 255, 2, 0, 1, 2, 2, 3, 1, 1], &crossed);
+    let deep = [255, 255, 0, 255, 1, 255, 2, 0, 2, 2, 1, 3, 0, 1];
+    tally.ordered("(1,(3,(2,0))), the lowest species deep down", 4, &[255, 255, 0, 1, 0, 255, 2, 3, 2, 255, 4, 2, 4, 0], &deep);
+    let small_first = [255, 255, 0, 0, 0, 255, 2, 1, 2, 2, 2, 3];
+    tally.ordered("((3,2,1),0), the larger child last", 4, &[255, 255, 0, 255, 1, 3, 1, 2, 1, 1, 0, 0], &small_first);
+    let large_first = [255, 255, 0, 255, 1, 0, 1, 2, 1, 3, 0, 1];
+    tally.ordered("(1,(3,2,0)), the larger child first", 4, &[255, 255, 0, 1, 0, 255, 2, 3, 2, 2, 2, 0], &large_first);
+    tally.ordered("((4,5),3) of 64", 64, &[255, 255, 0, 255, 1, 5, 1, 4, 0, 3], &[255, 255, 0, 3, 0, 255, 2, 4, 2, 5]);
+    tally.ordered("(63,(62,5)) of 64", 64, &[255, 255, 0, 63, 0, 255, 2, 62, 2, 5], &[255, 255, 0, 255, 1, 5, 1, 62, 0, 63]);
+    tally.ordered("((0,1),2,(3,(4,5)))", 6, &SIX, &SIX);
+    let turned = [255, 255, 0, 255, 1, 255, 2, 5, 2, 4, 1, 3, 0, 2, 0, 255, 7, 1, 7, 0];
+    tally.ordered("(((5,4),3),2,(1,0))", 6, &turned, &SIX);
+    let all: Vec<u8> = (0..64).collect();
+    tally.ordered("((((0,1),2),3)..,63)", 64, &nested_house(), &nested_house());
+    tally.ordered("(63..,(3,(2,(1,0))))", 64, &body(Shape::Nested, &all, &mut Dice(SEED)), &nested_house());
+    let (mut rising, mut falling) = (vec![255, 255], vec![255, 255]);
+    for s in 0..64 {
+        rising.extend([0, s]);
+        falling.extend([0, 63 - s]);
+    }
+    tally.ordered("a fan of 64", 64, &falling, &rising);
+    tally.end_part("bodies put in house order, written out");
+}
+
+fn tables_refused(tally: &mut Tally) {
+    // 43,680 bytes are a table of 65 species. n comes first, then the length, then the bytes, then the room.
+    for n in BAD_COUNTS {
+        for length in [0, 4, 5, 41_664, 43_680] {
+            for byte in [0, 1, 255] {
+                for room in [0, 14, 300] {
+                    tally.calls("n 0 or over 64", Call::Build(n, &vec![byte; length], room), 2, &[], None);
+                }
+            }
+        }
+    }
+    for (n, lengths) in [(1, [1, 2]), (2, [1, 4]), (3, [0, 2]), (4, [3, 5]), (5, [0, 11]), (64, [41_663, 41_665])] {
+        for length in lengths {
+            for byte in [0, 3, 255] {
+                for room in [0, 4 * n - 3, 4 * n - 2, 300] {
+                    tally.calls("a table of a wrong length", Call::Build(n, &vec![byte; length], room), 7, &[], None);
+                }
+            }
+        }
+    }
+    let mut last = vec![0; 41_664];
+    last[41_663] = 8;
+    let tables: [(usize, &[u8], usize); 10] = [
+        (3, &[8], 0),
+        (3, &[9], 0),
+        (3, &[128], 0),
+        (3, &[255], 0),
+        (4, &[8, 0, 0, 0], 0),
+        (4, &[7, 9, 0, 255], 1),
+        (4, &[1, 0, 16, 1], 2),
+        (4, &[3, 0, 0, 8], 3),
+        (5, &[7, 7, 7, 7, 7, 7, 7, 7, 7, 15], 9),
+        (64, &last, 41_663),
+    ];
+    for (n, table, first) in tables {
+        for room in [0, 4 * n - 3, 4 * n - 2, 300] {
+            tally.calls("a byte over 7", Call::Build(n, table, room), 8, &[first], None);
+        }
+    }
+    // Room for the body alone is not enough, and a table that no tree holds is 9 all the same.
+    let rooms: [(usize, &[u8], &[usize]); 8] = [
+        (1, &[], &[0, 1]),
+        (2, &[], &[0, 2, 5]),
+        (3, &[0], &[0, 8, 9]),
+        (3, &[7], &[0, 9]),
+        (4, &[0, 0, 0, 0], &[0, 10, 13]),
+        (4, &[1, 0, 0, 1], &[0, 12, 13]),
+        (4, &[3, 0, 0, 0], &[0, 13]),
+        (64, &[0; 41_664], &[0, 130, 253]),
+    ];
+    for (n, table, rooms) in rooms {
+        for &room in rooms {
+            tally.calls("room too short", Call::Build(n, table, room), 9, &[], None);
+        }
+    }
+    tally.end_part("tables to build from, refused");
+}
+
+fn tables_without_a_tree(tally: &mut Tally) {
+    for byte in [3, 5, 6, 7] {
+        tally.no_tree("two or three of a triple", 3, &[byte], 7);
+    }
+    tally.no_tree("01|2 and 02|1 of 4", 4, &[3, 0, 0, 0], 7);
+    tally.no_tree("01|2, 03|1 and 12|3", 4, &[1, 2, 0, 1], 15);
+    tally.no_tree("13|2 and 23|1 of 4", 4, &[0, 0, 0, 6], 14);
+    tally.no_tree("01|2 and 12|3, and 02|1", 4, &[3, 0, 0, 1], 7);
+    tally.no_tree("all of 4", 4, &[7; 4], 15);
+    let mut table = [0; 20];
+    table[19] = 3;
+    tally.no_tree("34|5 and 35|4 of 6", 6, &table, 56);
+    table[0] = 5;
+    tally.no_tree("12|0 and 01|2 beside them", 6, &table, 7);
+    // (0,1,2) stops below {0,1,2,3}, which 23|4 joins; (4,5,6) stops higher up and comes later.
+    let mut table = [0; 35];
+    (table[0], table[9], table[34]) = (3, 1, 3);
+    tally.no_tree("a deep set before a high one", 7, &table, 7);
+    // (0,1) and (2,3) are trees, and (4,5,6) stops.
+    table[0] = 1;
+    tally.no_tree("two trees before a set that stops", 7, &table, 112);
+    let mut table = vec![0; 41_664];
+    table[41_663] = 6;
+    tally.no_tree("the last triple of 64", 64, &table, 7 << 61);
+    table[0] = 3;
+    tally.no_tree("the first and the last triple of 64", 64, &table, 7);
+    tally.no_tree("all of 64", 64, &[7; 41_664], usize::MAX);
+    tally.end_part("tables that no tree holds");
+}
+
+fn tables_built(tally: &mut Tally) {
+    tally.built("n 1", 1, &[], &[255, 0]);
+    tally.built("n 2", 2, &[], &[255, 255, 0, 0, 0, 1]);
+    tally.built("n 3, nothing entered", 3, &[0], &[255, 255, 0, 0, 0, 1, 0, 2]);
+    tally.built("01|2", 3, &[1], &[255, 255, 0, 255, 1, 0, 1, 1, 0, 2]);
+    tally.built("02|1", 3, &[2], &[255, 255, 0, 255, 1, 0, 1, 2, 0, 1]);
+    tally.built("12|0", 3, &[4], &[255, 255, 0, 0, 0, 255, 2, 1, 2, 2]);
+    tally.built("n 4, nothing entered", 4, &[0; 4], &[255, 255, 0, 0, 0, 1, 0, 2, 0, 3]);
+    tally.built("01|2 and 12|3", 4, &[1, 0, 0, 1], &LADDER);
+    tally.built("all of (((0,1),2),3)", 4, &[1; 4], &LADDER);
+    tally.built("01|2 of 4", 4, &[1, 0, 0, 0], &[255, 255, 0, 255, 1, 0, 1, 1, 0, 2, 0, 3]);
+    tally.built("23|1 of 4", 4, &[0, 0, 0, 4], &[255, 255, 0, 0, 0, 1, 0, 255, 3, 2, 3, 3]);
+    tally.built("03|1 and 12|0", 4, &[4, 2, 0, 0], &[255, 255, 0, 255, 1, 0, 1, 3, 0, 255, 4, 1, 4, 2]);
+    tally.built("01|3 and 12|3", 4, &[0, 1, 0, 1], &[255, 255, 0, 255, 1, 0, 1, 1, 1, 2, 0, 3]);
+    tally.built("((0,1),(2,3))", 4, &[1, 1, 4, 4], &[255, 255, 0, 255, 1, 0, 1, 1, 0, 255, 4, 2, 4, 3]);
+    tally.built("04|1 of 5", 5, &[0, 0, 0, 0, 2, 0, 0, 0, 0, 0], &[255, 255, 0, 255, 1, 0, 1, 4, 0, 1, 0, 2, 0, 3]);
+    let table = [1, 1, 0, 0, 1, 0, 0, 4, 4, 0, 1, 0, 0, 4, 4, 0, 4, 4, 0, 4];
+    tally.built("the run with n = 6", 6, &table, &SIX);
+    let mut fan = vec![255, 255];
+    fan.extend((0..64).flat_map(|s| [0, s]));
+    tally.built("n 64, nothing entered", 64, &[0; 41_664], &fan);
+    tally.built("all of ((((0,1),2),3)..,63)", 64, &[1; 41_664], &nested_house());
+    let mut table = vec![0; 41_664];
+    table[41_663] = 1;
+    let mut last = vec![255, 255];
+    last.extend((0..61).flat_map(|s| [0, s]));
+    last.extend([0, 255, 62, 61, 62, 62, 0, 63]);
+    tally.built("the last triple of 64", 64, &table, &last);
+    tally.end_part("tables that a tree holds, bodies written out");
+}
+
 // A number of species. Most are small.
 fn random_n(dice: &mut Dice) -> usize {
     match dice.below(1_000) {
@@ -362,14 +611,32 @@ fn random_n(dice: &mut Dice) -> usize {
     }
 }
 
-// The length of a table that n asks for; at times another one.
+// The length of a table that n asks for.
+fn fitting(n: usize) -> usize {
+    (0..n.min(64)).map(|c| c * c.saturating_sub(1) / 2).sum()
+}
+
+// That length; at times another one.
 fn random_room(n: usize, dice: &mut Dice) -> usize {
-    let fitting: usize = (0..n.min(64)).map(|c| c * c.saturating_sub(1) / 2).sum();
     if dice.below(8) == 0 {
-        (fitting + dice.below(3)).saturating_sub(1)
+        (fitting(n) + dice.below(3)).saturating_sub(1)
     } else {
-        fitting
+        fitting(n)
     }
+}
+
+// A room for `least` bytes or some more; at times a shorter one.
+fn random_body_room(least: usize, dice: &mut Dice) -> usize {
+    match dice.below(16) {
+        0 => least - 1,
+        1 => dice.below(least),
+        2 => 300,
+        _ => least + dice.below(4),
+    }
+}
+
+fn another_n(n: usize, dice: &mut Dice) -> usize {
+    [0, 65, 255, n + 256, usize::MAX][dice.below(5)]
 }
 
 // How often each number was the answer.
@@ -378,18 +645,19 @@ fn counted(answers: &[usize]) -> String {
     given.join(", ")
 }
 
+// A good body, of every species or of some.
+fn random_body(n: usize, every: bool, dice: &mut Dice) -> Vec<u8> {
+    let species = shuffled(n as u8, dice);
+    let count = if every || dice.below(2) == 0 { n } else { 1 + dice.below(n) };
+    let shape = SHAPES[[0, 1, 2, 2][dice.below(4)]];
+    body(shape, &species[..count], dice)
+}
+
 // A good collection. Most are small; some have up to 64 species or 16 trees.
 fn random_collection(dice: &mut Dice) -> Vec<u8> {
     let n = random_n(dice);
     let trees = if dice.below(50) == 0 { 16 } else { dice.below(5) };
-    let bodies: Vec<Vec<u8>> = (0..trees)
-        .map(|_| {
-            let species = shuffled(n as u8, dice);
-            let count = if dice.below(2) == 0 { n } else { 1 + dice.below(n) };
-            let shape = SHAPES[[0, 1, 2, 2][dice.below(4)]];
-            body(shape, &species[..count], dice)
-        })
-        .collect();
+    let bodies: Vec<Vec<u8>> = (0..trees).map(|_| random_body(n, false, dice)).collect();
     collection(n as u8, &bodies)
 }
 
@@ -457,7 +725,7 @@ fn random_list(n: usize, dice: &mut Dice) -> Vec<[u8; 3]> {
 
 fn damage_list(n: &mut usize, records: &mut Vec<[u8; 3]>, dice: &mut Dice) -> &'static str {
     if dice.below(8) == 0 {
-        *n = [0, 65, 255, *n + 256, usize::MAX][dice.below(5)];
+        *n = another_n(*n, dice);
         return "another n";
     }
     if records.is_empty() {
@@ -491,6 +759,139 @@ fn random_lists(tally: &mut Tally) {
     tally.end_part(&format!("{LISTS} random lists of records, seed {SEED}, against the second implementation"));
 }
 
+fn random_bodies(tally: &mut Tally) {
+    let mut dice = Dice(SEED);
+    let mut answers = [0; 10];
+    let mut faults = [0; 5];
+    for _ in 0..BODIES {
+        let mut n = random_n(&mut dice);
+        let mut bytes = random_body(n, false, &mut dice);
+        let kind = match dice.below(16) {
+            0..=8 => "good",
+            9 => {
+                n = if dice.below(2) == 0 { 1 + dice.below(n) } else { another_n(n, &mut dice) };
+                "another n"
+            }
+            _ => damage(&mut bytes, &mut dice),
+        };
+        let room = random_body_room(bytes.len().max(2), &mut dice);
+        let (told, house) = plain::order(n, &bytes, room);
+        answers[told.number] += 1;
+        if told.number == 6 {
+            faults[told.values[2]] += 1;
+        }
+        tally.call(kind, Call::Order(n, &bytes, room), dice.below(MOST_VALUES + 1), &told, house.as_deref());
+    }
+    println!("  house order answered {}; of 6, faults 1 to 4: {:?}", counted(&answers), &faults[1..]);
+    tally.end_part(&format!("{BODIES} random bodies, seed {SEED}, against the second implementation"));
+}
+
+// The table of some random trees.
+fn listed(n: usize, trees: usize, dice: &mut Dice) -> Vec<u8> {
+    let bodies: Vec<Vec<u8>> = (0..trees).map(|_| random_body(n, false, dice)).collect();
+    plain::list(&collection(n as u8, &bodies), fitting(n)).1.unwrap()
+}
+
+// The table of one tree, with everything entered of some triples that stand together in it: most meet far down, so sets stop at several depths.
+fn quarrels(n: usize, dice: &mut Dice) -> Vec<u8> {
+    let species = shuffled(n as u8, dice);
+    let shape = SHAPES[dice.below(3)];
+    let mut table = plain::list(&one(n as u8, &body(shape, &species, dice)), fitting(n)).1.unwrap();
+    if n > 2 {
+        for _ in 0..2 + dice.below(3) {
+            let from = dice.below(n - 2);
+            let mut triple = [0, 1, 2].map(|i| species[from + i] as usize);
+            triple.sort();
+            let [a, b, c] = triple;
+            table[fitting(c) + b * b.saturating_sub(1) / 2 + a] = 7;
+        }
+    }
+    table
+}
+
+// A table with bytes up to 7, and what it is.
+fn random_table(n: usize, dice: &mut Dice) -> (Vec<u8>, &'static str) {
+    let (mut table, kind, bits) = match dice.below(8) {
+        0..=2 => (vec![0; fitting(n)], "a few bits", dice.below(n)),
+        3 => (listed(n, 1, dice), "one tree", 0),
+        4 => (listed(n, 2 + dice.below(2), dice), "some trees", 0),
+        5 => (quarrels(n, dice), "one tree, and quarrels", 0),
+        _ => (listed(n, 1 + dice.below(2), dice), "trees, and a few bits changed", 1 + dice.below(3)),
+    };
+    if !table.is_empty() {
+        for _ in 0..bits {
+            let place = dice.below(table.len());
+            table[place] ^= 1 << dice.below(3);
+        }
+    }
+    (table, kind)
+}
+
+fn damage_table(n: &mut usize, table: &mut Vec<u8>, dice: &mut Dice) -> &'static str {
+    match dice.below(3) {
+        0 => {
+            *n = another_n(*n, dice);
+            "another n"
+        }
+        1 => {
+            let length = if dice.below(2) == 0 { dice.below(table.len() + 1) } else { table.len() + dice.below(3) };
+            table.resize(length, dice.below(9) as u8);
+            "another length"
+        }
+        _ => {
+            for _ in 0..1 + dice.below(3) {
+                let place = dice.below(table.len().max(1));
+                if let Some(byte) = table.get_mut(place) {
+                    *byte = if dice.below(2) == 0 { 8 } else { dice.below(256) as u8 };
+                }
+            }
+            "bytes of any value"
+        }
+    }
+}
+
+fn random_tables(tally: &mut Tally) {
+    let mut dice = Dice(SEED);
+    let mut answers = [0; 11];
+    let mut below_all = 0;
+    for _ in 0..TABLES {
+        let mut n = random_n(&mut dice);
+        let least = 4 * n - 2;
+        let (mut table, mut kind) = random_table(n, &mut dice);
+        if dice.below(8) == 0 {
+            kind = damage_table(&mut n, &mut table, &mut dice);
+        }
+        let room = random_body_room(least, &mut dice);
+        let (told, body) = plain::build(n, &table, room);
+        answers[told.number] += 1;
+        if told.number == 10 && told.values[0].count_ones() < n as u32 {
+            below_all += 1;
+        }
+        tally.call(kind, Call::Build(n, &table, room), dice.below(MOST_VALUES + 1), &told, body.as_deref());
+    }
+    println!("  building answered {}; of 10, sets without some species: {below_all}", counted(&answers));
+    tally.end_part(&format!("{TABLES} random tables, seed {SEED}, against the second implementation"));
+}
+
+// Listing one tree of every species and building gives the tree in house order.
+fn random_trees(tally: &mut Tally) {
+    let mut dice = Dice(SEED);
+    for _ in 0..TREES {
+        let n = random_n(&mut dice);
+        let bytes = random_body(n, true, &mut dice);
+        let room = 4 * n - 2 + dice.below(3);
+        let (told, house) = plain::order(n, &bytes, room);
+        tally.call("a tree in house order", Call::Order(n, &bytes, room), MOST_VALUES, &told, house.as_deref());
+        let one = one(n as u8, &bytes);
+        let (list_told, table) = plain::list(&one, fitting(n));
+        tally.call("the table of one tree", Call::List(&one, fitting(n)), MOST_VALUES, &list_told, table.as_deref());
+        let table = table.unwrap();
+        assert_eq!(plain::build(n, &table, room).1, house, "the second implementation builds another tree");
+        tally.call("the tree built again", Call::Build(n, &table, room), MOST_VALUES, &told, house.as_deref());
+    }
+    tally.end_part(&format!("{TREES} random trees of every species, seed {SEED}: listed, put in house order and built again"));
+}
+
 fn main() {
     let mut tally = Tally::default();
     header_and_lengths(&mut tally);
@@ -502,6 +903,14 @@ fn main() {
     lists_refused(&mut tally);
     lists_entered(&mut tally);
     random_lists(&mut tally);
+    bodies_refused(&mut tally);
+    bodies_ordered(&mut tally);
+    random_bodies(&mut tally);
+    tables_refused(&mut tally);
+    tables_without_a_tree(&mut tally);
+    tables_built(&mut tally);
+    random_tables(&mut tally);
+    random_trees(&mut tally);
     println!("tries: {} cases, {} differ", tally.cases, tally.differ);
     if tally.differ > 0 {
         std::process::exit(1);

@@ -26,6 +26,14 @@ enum Answer {
     BadLength(usize),
     BadTree(Broken),
     BadTable,
+    BadByte(usize),
+    ShortRoom,
+    NoTree(u64),
+    Written(usize),
+}
+
+fn bad_count(n: usize) -> bool {
+    n == 0 || 64 < n
 }
 
 // ---- a tree's body
@@ -44,6 +52,11 @@ fn parent(body: &[u8], i: usize) -> u8 {
 
 fn species(body: &[u8], i: usize) -> u8 {
     body[WIDTH * i + 1]
+}
+
+fn put_node(out: &mut [u8], at: usize, parent: u8, species: u8) {
+    out[WIDTH * at] = parent;
+    out[WIDTH * at + 1] = species;
 }
 
 fn kids(body: &[u8], i: usize) -> usize {
@@ -170,7 +183,7 @@ fn read_answer(b: &[u8]) -> Answer {
     }
     let n = b[1] as usize;
     let trees = b[2] as usize;
-    if n == 0 || 64 < n || 16 < trees {
+    if bad_count(n) || 16 < trees {
         return Answer::BadCounts;
     }
     all_trees(b, n, trees)
@@ -285,6 +298,28 @@ fn index(a: usize, b: usize, c: usize) -> usize {
     c * (c - 1) * (c - 2) / 6 + b * (b - 1) / 2 + a
 }
 
+// The byte of the triple a < b < c; 0 where the table does not have it.
+fn byte(t: &[u8], a: usize, b: usize, c: usize) -> u8 {
+    let i = index(a, b, c);
+    if i < t.len() {
+        t[i]
+    } else {
+        0
+    }
+}
+
+// The first place with a byte over 7; the length where there is none.
+fn over(t: &[u8]) -> usize {
+    let mut i = 0;
+    while i < t.len() {
+        if t[i] > 7 {
+            return i;
+        }
+        i += 1;
+    }
+    i
+}
+
 // Adds a bit to the byte of the triple a < b < c: 1 for ab|c, 2 for ac|b, 4 for bc|a.
 fn add_bit(t: &mut [u8], a: usize, b: usize, c: usize, bit: u8) {
     t[index(a, b, c)] |= bit;
@@ -340,6 +375,205 @@ fn list_answer(b: &[u8], t: &mut [u8]) -> Answer {
     answer
 }
 
+// ---- house order
+
+// The first child of node i that has species x.
+fn child_with(body: &[u8], groups: &[u64; 127], i: usize, x: usize) -> usize {
+    let count = node_count(body);
+    let mut j = 1;
+    while j < count {
+        if parent(body, j) as usize == i && has(groups[j], x) {
+            return j;
+        }
+        j += 1;
+    }
+    0
+}
+
+// Writes the tree under node i in house order, as node `at` under parent p. Returns the number of the next node.
+fn put(body: &[u8], groups: &[u64; 127], i: usize, p: u8, at: usize, out: &mut [u8]) -> usize {
+    let s = species(body, i);
+    put_node(out, at, p, s);
+    let mut next = at + 1;
+    if s != NONE {
+        return next;
+    }
+    let mut left = groups[i];
+    while left != 0 {
+        let c = child_with(body, groups, i, lowest(left));
+        next = put(body, groups, c, at as u8, next, out);
+        left &= !groups[c];
+    }
+    next
+}
+
+fn order_answer(n: usize, body: &[u8], out: &mut [u8]) -> Answer {
+    if bad_count(n) {
+        return Answer::BadCounts;
+    }
+    if bad_length(body.len()) {
+        return Answer::BadLength(0);
+    }
+    if let Some(x) = first_fault(0, n, body) {
+        return Answer::BadTree(x);
+    }
+    if out.len() < body.len() {
+        return Answer::ShortRoom;
+    }
+    let mut groups = [0; 127];
+    groups_of(body, &mut groups);
+    Answer::Written(put(body, &groups, 0, NONE, 0, out))
+}
+
+// ---- splitting a set, and building
+
+fn link(on: bool, a: usize, b: usize, g: &mut [[bool; 64]; 64]) {
+    if on {
+        g[a][b] = true;
+        g[b][a] = true;
+    }
+}
+
+// The species of s below k.
+fn below(s: u64, k: usize) -> u64 {
+    s & ((1 << k) - 1)
+}
+
+// The links on s: of all triples with their three species in s.
+fn links(t: &[u8], s: u64) -> [[bool; 64]; 64] {
+    let mut g = [[false; 64]; 64];
+    let mut highest = s;
+    while highest != 0 {
+        let c = lowest(highest);
+        let low = below(s, c);
+        let mut middle = low;
+        while middle != 0 {
+            let b = lowest(middle);
+            let mut left = below(low, b);
+            while left != 0 {
+                let a = lowest(left);
+                let v = byte(t, a, b, c);
+                link(v & 1 != 0, a, b, &mut g);
+                link(v & 2 != 0, a, c, &mut g);
+                link(v & 4 != 0, b, c, &mut g);
+                left = rest(left);
+            }
+            middle = rest(middle);
+        }
+        highest = rest(highest);
+    }
+    g
+}
+
+// The species linked to i.
+fn near(g: &[[bool; 64]; 64], i: usize) -> u64 {
+    let mut x = 0;
+    let mut j = 0;
+    while j < 64 {
+        if g[i][j] {
+            x |= 1 << j;
+        }
+        j += 1;
+    }
+    x
+}
+
+// What is reached from a over the links.
+fn part(g: &[[bool; 64]; 64], a: usize) -> u64 {
+    let mut x = 1 << a;
+    let mut done = 0;
+    let mut todo = x;
+    while todo != 0 {
+        let i = lowest(todo);
+        x |= near(g, i);
+        done |= 1 << i;
+        todo = x & !done;
+    }
+    x
+}
+
+// The connected parts of s, by lowest species, to the front of `parts`. Returns how many there are.
+fn split(t: &[u8], s: u64, parts: &mut [u64; 64]) -> usize {
+    let g = links(t, s);
+    let mut left = s;
+    let mut k = 0;
+    while left != 0 {
+        let p = part(&g, lowest(left));
+        parts[k] = p;
+        k += 1;
+        left &= !p;
+    }
+    k
+}
+
+// The next node's number, or the set that stops.
+enum Grown {
+    Next(usize),
+    Stopped(u64),
+}
+
+// Builds the set s, as node `at` under a parent.
+fn grow(t: &[u8], s: u64, draft: &mut [u8], at: usize, parent: u8) -> Grown {
+    if s.count_ones() == 1 {
+        put_node(draft, at, parent, lowest(s) as u8);
+        return Grown::Next(at + 1);
+    }
+    let mut parts = [0; 64];
+    let count = split(t, s, &mut parts);
+    if count == 1 {
+        return Grown::Stopped(s);
+    }
+    put_node(draft, at, parent, NONE);
+    let mut next = at + 1;
+    let mut k = 0;
+    while k < count {
+        match grow(t, parts[k], draft, next, at as u8) {
+            Grown::Next(m) => next = m,
+            Grown::Stopped(u) => return Grown::Stopped(u),
+        }
+        k += 1;
+    }
+    Grown::Next(next)
+}
+
+// The length that holds the body of any tree of s species.
+fn body_room(s: usize) -> usize {
+    WIDTH * (2 * s - 1)
+}
+
+fn all(n: usize) -> u64 {
+    if n == 64 {
+        u64::MAX
+    } else {
+        (1 << n) - 1
+    }
+}
+
+fn build_answer(n: usize, t: &[u8], out: &mut [u8]) -> Answer {
+    if bad_count(n) {
+        return Answer::BadCounts;
+    }
+    if t.len() != room(n) {
+        return Answer::BadTable;
+    }
+    let i = over(t);
+    if i < t.len() {
+        return Answer::BadByte(i);
+    }
+    if out.len() < body_room(n) {
+        return Answer::ShortRoom;
+    }
+    let mut draft = [0; 254];
+    match grow(t, all(n), &mut draft, 0, NONE) {
+        Grown::Next(m) => {
+            let end = WIDTH * m;
+            out[..end].copy_from_slice(&draft[..end]);
+            Answer::Written(m)
+        }
+        Grown::Stopped(u) => Answer::NoTree(u),
+    }
+}
+
 // ---- numbers handed back
 
 // Lays `given` into `values` from place 0 on, as far as there is room.
@@ -380,6 +614,19 @@ fn hand_back(answer: Answer, values: &mut [usize]) -> usize {
             6
         }
         Answer::BadTable => 7,
+        Answer::BadByte(i) => {
+            lay(values, &[i]);
+            8
+        }
+        Answer::ShortRoom => 9,
+        Answer::NoTree(s) => {
+            lay(values, &[s as usize]);
+            10
+        }
+        Answer::Written(nodes) => {
+            lay(values, &[nodes]);
+            0
+        }
     }
 }
 
@@ -389,4 +636,12 @@ pub fn read(b: &[u8], values: &mut [usize]) -> usize {
 
 pub fn list(b: &[u8], t: &mut [u8], values: &mut [usize]) -> usize {
     hand_back(list_answer(b, t), values)
+}
+
+pub fn order(n: usize, body: &[u8], out: &mut [u8], values: &mut [usize]) -> usize {
+    hand_back(order_answer(n, body, out), values)
+}
+
+pub fn build(n: usize, t: &[u8], out: &mut [u8], values: &mut [usize]) -> usize {
+    hand_back(build_answer(n, t, out), values)
 }

@@ -1,12 +1,17 @@
 -- At most one answer and one content meet a contract of our form; and what the first number of an order says. Assumes nothing.
 use mathlib.Core.Path.{_≡_, refl, sym, _∙_}
-use mathlib.Core.Bool.{not, So}
+use mathlib.Core.Bool.{Bool, So, cond, false, not, true}
 use mathlib.Core.List.{List, [], _∷_, _++_}
 use borrow.Author.Tests.{not-true}
-use Rattle.answers.specs.Answers.{Value, Step, told, firstOf, Exact}
+use Rattle.answers.specs.Answers.{Value, Step, Told, told, firstOf, Exact}
 
 pub at-most-one : {A B : Type 0} {a : A} {m : B} {r r′ : A} {o o′ : B} → Exact a m r o → Exact a m r′ o′ → (r ≡ r′) × (o ≡ o′)
 at-most-one p q = (p .is ∙ sym (q .is), p .holds ∙ sym (q .holds))
+
+-- what is told of an answer that depends on a condition
+pub told-cond : {A : Type 0} (f : A → Told) (c : Bool) (x y : A) {z : Told} → f y ≡ z → f (cond c x y) ≡ cond c (f x) z
+told-cond f true x y e = refl
+told-cond f false x y e = e
 
 -- no condition of the list holds
 abbrev pub Passed : List Step → Type 0

@@ -1,9 +1,13 @@
 -- Document 01, "Numbers handed back": a number, what is returned with it, and the order in which conditions are looked at.
 use mathlib.Core.Path.{_≡_}
-use mathlib.Core.Bool.{Bool, cond}
+use mathlib.Core.Bool.{Bool, cond, true, false, _||_}
 use mathlib.Core.List.{List, [], _∷_}
 use Prim.Native.Nat.{ℕ}
+use lib.Dec.{eqb, ltb}
+use Rattle.bodies.specs.declared.Broken.{Broken}
 use Rattle.bodies.specs.declared.Fault.{Fault}
+use Rattle.bodies.specs.declared.Verdict.{Verdict}
+use Rattle.bodies.specs.declared.Verdict.the-variants.{Fine, Breaks}
 
 -- what the table lists as returned with a number
 pub data Value : Type 0 where
@@ -40,6 +44,24 @@ step k b vs = record { number = k; when = b; values = vs }
 abbrev pub firstOf : List Step → List Value → Told
 firstOf [] vs = told 0 vs
 firstOf (s ∷ l) vs = cond (s .when) (told (s .number) (s .values)) (firstOf l vs)
+
+-- ---- conditions and values that several operations share
+
+-- refusal 2 where a count of species is handed in: "n is 0 or over 64"
+abbrev pub wrongCount : ℕ → Bool
+wrongCount n = eqb n 0 || ltb 64 n
+
+-- refusal 6: "a tree rule is broken", with "tree number, node, fault"
+abbrev pub broken : Verdict → Bool
+broken Fine = false
+broken (Breaks x) = true
+
+abbrev pub brokenValues : Broken → List Value
+brokenValues x = tree-number (x .tree) ∷ node-number (x .node) ∷ rule-broken (x .fault) ∷ []
+
+abbrev pub faultValues : Verdict → List Value
+faultValues Fine = []
+faultValues (Breaks x) = brokenValues x
 
 -- A contract of our form: the answer is the defined answer, and what is lent holds the defined content.
 pub record Exact {A B : Type 0} (answer : A) (content : B) (r : A) (o : B) : Type 0 where

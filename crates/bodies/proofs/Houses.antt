@@ -1,18 +1,21 @@
--- A body in house order: it is good, its tree is the body's tree in house order, and two bodies have the same groups exactly when they are equal in
--- house order. Assumes nothing.
+-- A body in house order: it is good, it has the body's length and node count, its tree is the body's tree in house order, and two bodies have the same
+-- groups exactly when they are equal in house order. Assumes nothing.
 use mathlib.Core.Bool.{So, false}
 use mathlib.Core.List.{List}
 use mathlib.Core.Logic.{_↔_}
 use mathlib.Core.Path.{_∙_, _≡_, ap, subst, sym}
 use Prim.Native.Nat.{_<_, _≤_, ℕ}
+use native.Mathlib.Omega.{arith}
 use lib.ListN.{length}
 use Rattle.sets.specs.Species.{Below}
 use Rattle.trees.proofs.Theorems.{HouseOrder, house-order, known-by-house}
 use Rattle.trees.specs.Trees.{SameGroups, house, under, wellFormed}
-use Rattle.bodies.proofs.Back.{body-back, body-badLength, body-good}
+use Rattle.bodies.proofs.Back.{body-back, body-badLength, body-count, body-good, body-length}
+use Rattle.bodies.proofs.Counts.{all-nodes}
 use Rattle.bodies.proofs.Drawn.{tree-below, tree-formed}
+use Rattle.bodies.proofs.Housed.{house-count}
 use Rattle.bodies.proofs.Rules.{length-good}
-use Rattle.bodies.specs.Draws.{bodyOf, ordered, treeOf}
+use Rattle.bodies.specs.Draws.{bodyOf, nodeCount, ordered, treeOf}
 use Rattle.bodies.specs.Nodes.{Good, badLength, nodes}
 
 module _ (n : ℕ) (small : n ≤ 64) where
@@ -37,6 +40,15 @@ module _ (n : ℕ) (small : n ≤ 64) where
 
     pub ordered-badLength : badLength (length (ordered b)) ≡ false
     ordered-badLength = body-badLength n (house (treeOf b)) (in-house .formed) house-below small
+
+    house-nodes : nodeCount (house (treeOf b)) ≡ nodes b .count
+    house-nodes = house-count (treeOf b) ∙ all-nodes n (nodes b) g some-node
+
+    pub ordered-count : nodes (ordered b) .count ≡ nodes b .count
+    ordered-count = body-count (house (treeOf b)) ∙ house-nodes
+
+    pub ordered-length : length (ordered b) ≡ length b
+    ordered-length = omega (arith, body-length (house (treeOf b)), house-nodes, length-good (length b) l)
 
   pub ordered-groups : (b b′ : List ℕ) → Good n (nodes b) → Good n (nodes b′) → badLength (length b) ≡ false → badLength (length b′) ≡ false
       → SameGroups (treeOf b) (treeOf b′) ↔ (ordered b ≡ ordered b′)

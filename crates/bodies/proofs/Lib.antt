@@ -10,4 +10,7 @@ pub mod Asked
 pub mod Cells
 pub mod Passes
 pub mod Latest
+pub mod Housed
 pub mod Houses
+pub mod Stores
+pub mod Written

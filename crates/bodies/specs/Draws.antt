@@ -1,6 +1,7 @@
 -- From nodes to the tree that they draw, and from a tree to its body. Document 01, "A tree's body and the collection".
 use mathlib.Core.List.{List, [], _∷_, _++_}
 use Prim.Native.Nat.{ℕ, zero, suc, _+_}
+use lib.Seq.{sets}
 use Rattle.trees.specs.Trees.{Tree, Forest, leaf, node, nil, cons, house}
 use Rattle.bodies.specs.Nodes.{Nodes, nodes, children}
 
@@ -54,3 +55,7 @@ bodyOf t = bytes t 255 0
 -- the house-order body of a body
 abbrev pub ordered : List ℕ → List ℕ
 ordered b = bodyOf (house (treeOf b))
+
+-- the room o once the body b was written: "order and build write the body and change nothing behind it"
+abbrev pub written : List ℕ → List ℕ → List ℕ
+written o b = sets o 0 b

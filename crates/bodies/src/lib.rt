@@ -1,15 +1,17 @@
 // The bytes of a tree's body: its rules and their faults, its groups, and what its tree says of three species.
 ghost use mathlib.Core.Path.{_≡_};
 ghost use mathlib.Core.Bool.{So, cond, not, _&&_};
-ghost use Prim.Native.Nat.{ℕ, _<_, _≤_, _/_};
+ghost use mathlib.Core.List.{[], _∷_};
+ghost use Prim.Native.Nat.{ℕ, suc, _*_, _<_, _≤_, _/_};
 ghost use lib.Dec.{eqb, ltb};
-ghost use lib.ListN.{length, getD, replicate};
+ghost use lib.ListN.{length, replicate, take};
+ghost use lib.Seq.{sets};
 ghost use Rattle.sets.specs.Sets.{has, single};
 ghost use Rattle.trees.specs.Trees.{Tree};
 ghost use Rattle.trees.specs.Triplets.{different};
-ghost use Rattle.bodies.specs.Nodes.{nodes, Good, badLength, roomFor, children};
+ghost use Rattle.bodies.specs.Nodes.{nodes, width, Good, badLength, roomFor, children};
 ghost use Rattle.bodies.specs.Faults.{rightParent, seen, parentFault, nodeFault, fault};
-ghost use Rattle.bodies.specs.Draws.{treeOf};
+ghost use Rattle.bodies.specs.Draws.{treeOf, written};
 ghost use Rattle.bodies.specs.Groups.{setOf, Groups, entry, Meets, says};
 
 // The bytes of a node: its parent, then its species.
@@ -19,7 +21,7 @@ const WIDTH: usize = 2;
 const MOST_NODES: usize = 127;
 
 // The root's parent, and the species of a node with children.
-const NONE: u8 = 255;
+pub const NONE: u8 = 255;
 
 // The rule that a node breaks, with what document 01 returns of it.
 pub enum Fault {
@@ -77,14 +79,14 @@ pub fn node_count(body: &[u8]) -> usize
     body.len() / WIDTH
 }
 
-fn parent(body: &[u8], i: usize) -> u8
+pub fn parent(body: &[u8], i: usize) -> u8
     requires { ⌜ i < length (now body) / 2 ⌝ }
     ensures { λ r. ⌜ r ≡ nodes (now (body .entry)) .parent i ⌝ }
 {
     body[WIDTH * i]
 }
 
-fn species(body: &[u8], i: usize) -> u8
+pub fn species(body: &[u8], i: usize) -> u8
     requires { ⌜ i < length (now body) / 2 ⌝ }
     ensures { λ r. ⌜ r ≡ nodes (now (body .entry)) .species i ⌝ }
 {
@@ -331,4 +333,26 @@ pub fn ask(whole: u64, meets: &[u64; 4096], a: usize, b: usize, c: usize) -> Say
         return Says::BC;
     }
     Says::Nothing
+}
+
+// Writes node `at`.
+pub fn put_node(room: &mut [u8], at: usize, parent: u8, species: u8)
+    requires { ⌜ width * suc at ≤ length (now room) ⌝ }
+    ensures { λ _. ⌜ now (room .exit) ≡ sets (now (room .entry)) (width * at) (parent ∷ species ∷ []) ⌝ }
+{
+    room[WIDTH * at] = parent;
+    room[WIDTH * at + 1] = species;
+}
+
+// Lays the first k nodes of a body over the front of room.
+pub fn copy(body: &[u8], k: usize, room: &mut [u8])
+    requires { ⌜ (width * k ≤ length (now body)) × (width * k ≤ length (now room)) ⌝ }
+    ensures { λ _. ⌜ now (room .exit) ≡ written (now (room .entry)) (take (width * k) (now (body .entry))) ⌝ }
+{
+    let end = WIDTH * k;
+    let mut i = 0;
+    while i < end {
+        room[i] = body[i];
+        i += 1;
+    }
 }

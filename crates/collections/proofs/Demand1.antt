@@ -7,11 +7,11 @@ use mathlib.Core.Path.{_∙_, _≡_, ap, refl}
 use Prim.Native.Nat.{_+_, suc, zero, ℕ}
 use native.Mathlib.Omega.{arith}
 use Rattle.answers.proofs.Once.{at-most-one}
-use Rattle.answers.specs.Answers.{Step, Told, Value, firstOf, told}
+use Rattle.answers.specs.Answers.{Step, Told, Value, broken, faultValues, firstOf, told}
 use Rattle.bodies.specs.declared.Verdict.{Verdict}
 use Rattle.bodies.specs.declared.Verdict.the-variants.{Breaks, Fine}
-use Rattle.collections.specs.Layout.{broken, judged, noByte, shortBody, shortHeader, shortLength, species, tooLong, trees, wrongCounts, wrongLength, wrongVersion}
-use Rattle.collections.specs.Order.{allTrees, answerTold, faultValues, lastStep, readOrder, readValues}
+use Rattle.collections.specs.Layout.{judged, noByte, shortBody, shortHeader, shortLength, species, tooLong, trees, wrongCounts, wrongLength, wrongVersion}
+use Rattle.collections.specs.Order.{allTrees, answerTold, lastStep, readOrder, readValues}
 use Rattle.collections.specs.Reads.{readAnswer, readFrom, unless}
 use Rattle.collections.specs.declared.Answer.{Answer}
 use Rattle.collections.specs.declared.Answer.the-variants.{BadCounts, BadLength, BadTree, BadVersion, EndsEarly, Good, LeftOver}

@@ -1,35 +1,33 @@
--- What a collection that is read as good has: the counts, every tree inside the bytes, fine and of a good length, and nothing behind; so it has at
--- most 4,099 bytes. Assumes nothing.
-use mathlib.Core.Bool.{Bool, _||_, cond, false, not, true}
+-- Reading answers that a collection is good exactly when it is one, in document 01's sentences; and a good one has at most 4,099 bytes.
+-- Assumes nothing.
+use mathlib.Core.Bool.{Bool, cond, false, true}
 use mathlib.Core.List.{List}
-use mathlib.Core.Path.{_≡_, ap, refl, subst, sym}
-use Prim.Native.Nat.{_%_, _*_, _+_, _-_, _<_, _≤_, suc, zero, ℕ}
+use mathlib.Core.Path.{_∙_, _≡_, ap, refl, subst, sym}
+use Prim.Native.Nat.{_*_, _+_, _-_, _<_, _≤_, suc, zero, ℕ}
 use native.Mathlib.Omega.{arith}
-use borrow.Author.Tests.{eqb-false, eqb-true, ltb-false}
+use borrow.Author.Tests.{eqb-false, eqb-true, le-ltb, ltb-false, ne-eqb, not-false}
 use lib.Dec.{eqb, ltb}
-use lib.ListN.{length}
-use Rattle.bodies.specs.Nodes.{badLength}
+use lib.ListN.{drop, length, length-drop}
+use lib.Seq.{length-take-le}
+use Rattle.bodies.proofs.Rules.{length-good, no-fault}
+use Rattle.bodies.specs.Nodes as Nodes
+use Rattle.bodies.specs.Nodes.{badLength, nodes}
 use Rattle.bodies.specs.declared.Verdict.{Verdict}
 use Rattle.bodies.specs.declared.Verdict.the-variants.{Breaks, Fine}
 use Rattle.sets.proofs.Bools.{ne-e, or-none, test}
-use Rattle.collections.specs.Layout.{judged, lengthAt, noByte, shortBody, shortHeader, shortLength, species, start, trees, wrongCounts, wrongLength, wrongVersion}
+use Rattle.collections.proofs.Header.{read-trees}
+use Rattle.collections.proofs.Starts.{start-suc}
+use Rattle.collections.proofs.Steps.{end-good}
+use Rattle.collections.specs.Collection.{Collection}
+use Rattle.collections.specs.Layout.{bodyAt, judged, lengthAt, noByte, shortBody, shortHeader, shortLength, species, start, trees, version, wrongCounts, wrongLength, wrongVersion}
 use Rattle.collections.specs.Reads.{readAnswer, readFrom, unless}
 use Rattle.collections.specs.declared.Answer.{Answer}
 use Rattle.collections.specs.declared.Answer.the-variants.{BadCounts, BadLength, BadVersion, EndsEarly, Good, LeftOver}
 use Rattle.collections.specs.declared.Counts.{Counts}
 
-pub record TreeGood (b : List ℕ) (k : ℕ) : Type 0 where
-  pub inside : start b (suc k) ≤ length b
-  pub long : badLength (lengthAt b (start b k)) ≡ false
-  pub fine : judged b k ≡ Fine
-
-pub record Whole (b : List ℕ) (c : Counts) : Type 0 where
-  pub is : c ≡ record { n = species b; trees = trees b }
-  pub some : 0 < species b
-  pub most : species b ≤ 64
-  pub few : trees b ≤ 16
-  pub each : (k : ℕ) → k < trees b → TreeGood b k
-  pub end : length b ≡ start b (trees b)
+-- what is so of tree k in a good collection
+abbrev Sound : List ℕ → ℕ → Type 0
+Sound b k = (start b (suc k) ≤ length b) × (badLength (lengthAt b (start b k)) ≡ false) × Nodes.Good (species b) (nodes (bodyAt b k))
 
 not-good : (c : Bool) (x y : Answer) (k : Counts) → (x ≡ Good k → ⊥) → cond c x y ≡ Good k → (c ≡ false) × (y ≡ Good k)
 not-good true x y k n e = absurd (n e)
@@ -46,13 +44,9 @@ module _ (b : List ℕ) (c : Counts) where
   wrong : (k : ℕ) → BadLength k ≡ Good c → ⊥
   wrong k e = let z : _≡_ {A = ℕ} 0 1 = cc in omega arith
 
-  start-suc : (k : ℕ) → start b k + 2 ≤ start b (suc k)
-  unfolding start
-  start-suc k = omega arith
-
   -- every tree from k on is good, and what follows the last one is nothing
   from-good : (k j : ℕ) → k + j ≡ trees b → start b k ≤ length b → readFrom b k j ≡ Good c
-      → (c ≡ record { n = species b; trees = trees b }) × ((m : ℕ) → k ≤ m → m < trees b → TreeGood b m) × (length b ≡ start b (trees b))
+      → (c ≡ record { n = species b; trees = trees b }) × ((m : ℕ) → k ≤ m → m < trees b → Sound b m) × (length b ≡ start b (trees b))
   unfolding readFrom
   from-good k zero e le h =
       let g : Counts = record { n = species b; trees = trees b } in
@@ -69,12 +63,12 @@ module _ (b : List ℕ) (c : Counts) where
       let rest = from-good (suc k) j (omega arith) l (u .1) in (
         rest .0,
         (λ m a z. test (eqb k m)
-            (λ x. subst (TreeGood b) (eqb-true k m x) (record { inside = l; long = q .0; fine = u .0 }))
+            (λ x. subst (Sound b) (eqb-true k m x) (l, q .0, no-fault k (species b) (nodes (bodyAt b k)) .0 (u .0)))
             (λ x. let n = ne-e k m x in rest .1 m (omega arith) z)),
         rest .2,
       )
 
-  pub good-whole : readAnswer b ≡ Good c → Whole b c
+  pub good-whole : readAnswer b ≡ Good c → (c ≡ record { n = species b; trees = trees b }) × Collection b
   unfolding readAnswer start
   good-whole h =
       let p = not-good (noByte b) (EndsEarly 0) _ c (early 0) h in
@@ -83,15 +77,20 @@ module _ (b : List ℕ) (c : Counts) where
       let s = not-good (wrongCounts b) BadCounts _ c (λ z. let y : _≡_ {A = ℕ} 0 1 = cc in omega arith) (r .1) in
       let f = from-good 0 (trees b) (omega arith) (ltb-false _ _ (r .0)) (s .1) in
       let n = or-none (eqb (species b) 0) _ (s .0) in
-      let m = or-none (ltb 64 (species b)) (ltb 16 (trees b)) (n .1) in
-      record {
-        is = f .0;
-        some = let z = eqb-false (species b) 0 (n .0) in omega arith;
-        most = ltb-false _ _ (m .0);
-        few = ltb-false _ _ (m .1);
-        each = λ k l. f .1 k (omega arith) l;
-        end = f .2;
-      }
+      let m = or-none (ltb 64 (species b)) (ltb 16 (trees b)) (n .1) in (
+        f .0,
+        record {
+          header = ltb-false _ _ (r .0);
+          one = eqb-true (version b) 1 (not-false _ (q .0));
+          some = let z = eqb-false (species b) 0 (n .0) in omega arith;
+          most = ltb-false _ _ (m .0);
+          few = ltb-false _ _ (m .1);
+          inside = λ k l. f .1 k (omega arith) l .0;
+          long = λ k l. f .1 k (omega arith) l .1;
+          good = λ k l. f .1 k (omega arith) l .2;
+          end = f .2;
+        },
+      )
 
   -- each tree adds at most 2 + 254 bytes
   start-most : (k : ℕ) → ((m : ℕ) → m < k → lengthAt b (start b m) ≤ 254) → start b k ≤ 3 + 256 * k
@@ -102,12 +101,37 @@ module _ (b : List ℕ) (c : Counts) where
   -- "The largest has 4,099 bytes."
   pub good-most : readAnswer b ≡ Good c → length b ≤ 4099
   good-most h =
-      let w = good-whole h in
-      omega (arith, w .end, w .few, start-most (trees b) (λ m l. length-most _ (w .each m l .long)))
+      let w = good-whole h .1 in
+      omega (arith, w .end, w .few, start-most (trees b) (λ m l. let q = length-good (lengthAt b (start b m)) (w .long m l) in omega (arith, q .1, q .2)))
+
+-- ---- and a good collection is read as good
+
+module _ (b : List ℕ) (w : Collection b) where
+  rest-good : (k j : ℕ) → k + j ≡ trees b → readFrom b k j ≡ Good (record { n = species b; trees = trees b })
+  unfolding readFrom
+  rest-good k zero e = let q : k ≡ trees b = omega arith in end-good b k (start b k) refl (omega (arith, w .end, ap (start b) q))
+  rest-good k (suc j) e =
+      let l : k < trees b = omega arith in
+      let i = w .inside k l in
+      rw (
+        le-ltb (length b) (start b k + 2) (omega (arith, start-suc b k)),
+        w .long k l,
+        le-ltb (length b) (start b (suc k)) i,
+        no-fault k (species b) (nodes (bodyAt b k)) .1 (w .good k l),
+      ) (rest-good (suc k) j (omega arith))
+
+  pub whole-good : readAnswer b ≡ Good (record { n = species b; trees = trees b })
+  whole-good =
+      let i = w .some in
+      let z : species b ≡ 0 → ⊥ = λ e. omega arith in
+      let some : length b ≡ 0 → ⊥ = λ e. omega (arith, w .header) in
+      let n : wrongCounts b ≡ false = rw (ne-eqb (species b) 0 z, le-ltb 64 (species b) (w .most)) (le-ltb 16 (trees b) (w .few)) in
+      sym (read-trees b some (w .one) (w .header) n) ∙ rest-good 0 (trees b) (omega arith)
+
+  -- each body has a good length
+  pub whole-long : (k : ℕ) → k < trees b → badLength (length (bodyAt b k)) ≡ false
+  unfolding start
+  whole-long k l = rw long (w .long k l)
     where
-      length-most : (l : ℕ) → badLength l ≡ false → l ≤ 254
-      length-most l e = ltb-false 254 l (right (not (eqb (l % 2) 0)) (ltb 254 l) (right (eqb l 0) _ e))
-        where
-          right : (x y : Bool) → (x || y) ≡ false → y ≡ false
-          right true y e = absurd (let z : _≡_ {A = ℕ} 0 1 = cc in omega arith)
-          right false y e = e
+      long : length (bodyAt b k) ≡ lengthAt b (start b k)
+      long = length-take-le (lengthAt b (start b k)) (drop (start b k + 2) b) (omega (arith, length-drop (start b k + 2) b, w .inside k l))

@@ -1,19 +1,13 @@
 -- Where things stand in a collection. Document 01, "A tree's body and the collection": "A collection is: version byte 1; n; the number of trees; then
 -- for each tree a two-byte length of its body, big-endian, and the body. Nothing follows."
-use mathlib.Core.Bool.{Bool, true, false, not, _||_}
+use mathlib.Core.Bool.{Bool, not, _||_}
 use mathlib.Core.List.{List}
 use Prim.Native.Nat.{ℕ, zero, suc, _+_, _*_}
 use lib.Dec.{eqb, ltb}
 use lib.ListN.{length, getD, take, drop}
 use Rattle.bodies.specs.declared.Verdict.{Verdict}
-use Rattle.bodies.specs.declared.Verdict.the-variants.{Fine, Breaks}
 use Rattle.bodies.specs.Nodes.{nodes, badLength}
 use Rattle.bodies.specs.Faults.{fault}
-
--- "a tree rule is broken"
-abbrev pub broken : Verdict → Bool
-broken Fine = false
-broken (Breaks x) = true
 
 module _ (b : List ℕ) where
   abbrev pub version : ℕ

@@ -3,17 +3,10 @@
 use mathlib.Core.List.{List, [], _∷_, _++_}
 use Prim.Native.Nat.{ℕ, zero, suc, _-_}
 use lib.ListN.{length}
-use Rattle.bodies.specs.declared.Broken.{Broken}
-use Rattle.bodies.specs.declared.Verdict.{Verdict}
-use Rattle.bodies.specs.declared.Verdict.the-variants.{Fine, Breaks}
-use Rattle.answers.specs.Answers.{Value, species-count, tree-count, tree-number, node-number, rule-broken, left-over, Told, told, Step, step}
+use Rattle.answers.specs.Answers.{Value, species-count, tree-count, tree-number, left-over, Told, told, Step, step, broken, brokenValues, faultValues}
 use Rattle.collections.specs.declared.Answer.{Answer}
 use Rattle.collections.specs.declared.Answer.the-variants.{Good, BadVersion, BadCounts, EndsEarly, LeftOver, BadLength, BadTree}
-use Rattle.collections.specs.Layout.{species, trees, start, judged, wrongVersion, wrongCounts, noByte, shortHeader, shortLength, shortBody, wrongLength, broken, tooLong}
-
--- "tree number, node, fault"
-abbrev pub brokenValues : Broken → List Value
-brokenValues x = tree-number (x .tree) ∷ node-number (x .node) ∷ rule-broken (x .fault) ∷ []
+use Rattle.collections.specs.Layout.{species, trees, start, judged, wrongVersion, wrongCounts, noByte, shortHeader, shortLength, shortBody, wrongLength, tooLong}
 
 abbrev pub answerTold : Answer → Told
 answerTold (Good c) = told 0 (species-count (c .n) ∷ tree-count (c .trees) ∷ [])
@@ -23,10 +16,6 @@ answerTold (EndsEarly k) = told 3 (tree-number k ∷ [])
 answerTold (LeftOver m) = told 4 (left-over m ∷ [])
 answerTold (BadLength k) = told 5 (tree-number k ∷ [])
 answerTold (BadTree x) = told 6 (brokenValues x)
-
-abbrev pub faultValues : Verdict → List Value
-faultValues Fine = []
-faultValues (Breaks x) = brokenValues x
 
 module _ (b : List ℕ) where
   abbrev pub treeSteps : ℕ → List Step

@@ -1,11 +1,11 @@
 -- Document 01's number and values for each answer of entering, and the order of its refusals: "Entering: 2, 7, 13."
-use mathlib.Core.Bool.{Bool, _||_, not}
+use mathlib.Core.Bool.{Bool}
 use mathlib.Core.List.{List, [], _∷_}
 use Prim.Native.Nat.{ℕ}
-use lib.Dec.{eqb, ltb}
+use lib.Dec.{ltb}
 use lib.ListN.{length}
-use Rattle.tables.specs.Index.{C}
-use Rattle.answers.specs.Answers.{Value, species-count, first-record, Told, told, Step, step}
+use Rattle.tables.specs.Bytes.{wrongRoom}
+use Rattle.answers.specs.Answers.{Value, species-count, first-record, Told, told, Step, step, wrongCount}
 use Rattle.entering.specs.declared.Answer.{Answer}
 use Rattle.entering.specs.declared.Answer.the-variants.{BadCount, BadRecord, BadTable, Done}
 use Rattle.entering.specs.Enters.{firstBad}
@@ -15,16 +15,6 @@ enterTold (Done e) = told 0 (species-count (e .n) ∷ [])
 enterTold BadCount = told 2 []
 enterTold BadTable = told 7 []
 enterTold (BadRecord i) = told 13 (first-record i ∷ [])
-
--- ---- the "when" column of document 01's table, as far as it speaks of entering
-
--- "n is 0 or over 64"
-abbrev pub wrongCount : ℕ → Bool
-wrongCount n = eqb n 0 || ltb 64 n
-
--- "the table length is not C(n,3)"
-abbrev pub wrongRoom : ℕ → ℕ → Bool
-wrongRoom n l = not (eqb l (C n 3))
 
 -- "a record repeats a species or has one not below n"
 abbrev pub wrongRecord : ℕ → List (List ℕ) → Bool

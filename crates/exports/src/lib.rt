@@ -7,6 +7,8 @@ ghost use Rattle.collections.specs.Order.{answerTold};
 ghost use Rattle.listing.specs.Lists.{listAnswer, listAfter, listTold};
 ghost use Rattle.entering.specs.Enters.{enterAnswer, enterAfter};
 ghost use Rattle.entering.specs.Order.{enterTold};
+ghost use Rattle.ordering.specs.Orders.{orderAnswer, orderAfter, orderTold};
+ghost use Rattle.building.specs.Builds.{buildAnswer, buildAfter, buildTold};
 ghost use Rattle.exports.specs.Codes.{faultCode, Handed};
 
 // A fault by two numbers.
@@ -121,6 +123,61 @@ pub extern "C" fn koodhaxil_enter(
         entering::Answer::BadRecord(i) => {
             put(values, 0, i);
             13
+        }
+    }
+}
+
+// Puts a tree in house order, to the front of the room. A refusal leaves every byte of the room as it was.
+#[no_mangle]
+pub extern "C" fn koodhaxil_order(
+    n: usize,
+    body: &[u8],
+    room: &mut [u8],
+    values: &mut [usize],
+) -> usize
+    ensures { λ r. ⌜ Handed (orderTold (orderAnswer n (now (body .entry)) (length (now (room .entry))))) (now (values .entry)) r (now (values .exit)) ⌝ }
+    ensures { λ _. ⌜ now (room .exit) ≡ orderAfter n (now (body .entry)) (now (room .entry)) ⌝ }
+{
+    let a = ordering::order(n, body, room);
+    match a {
+        ordering::Answer::Done(w) => {
+            put(values, 0, w.nodes);
+            0
+        }
+        ordering::Answer::BadCount => 2,
+        ordering::Answer::BadLength => hand(collections::Answer::BadLength(0), values),
+        ordering::Answer::BadTree(x) => hand(collections::Answer::BadTree(x), values),
+        ordering::Answer::ShortRoom => 9,
+    }
+}
+
+// Builds the tree of the table t, to the front of the room. A refusal leaves every byte of the room as it was.
+#[no_mangle]
+pub extern "C" fn koodhaxil_build(
+    n: usize,
+    t: &[u8],
+    room: &mut [u8],
+    values: &mut [usize],
+) -> usize
+    ensures { λ r. ⌜ Handed (buildTold (buildAnswer n (now (t .entry)) (length (now (room .entry))))) (now (values .entry)) r (now (values .exit)) ⌝ }
+    ensures { λ _. ⌜ now (room .exit) ≡ buildAfter n (now (t .entry)) (now (room .entry)) ⌝ }
+{
+    let a = building::build(n, t, room);
+    match a {
+        building::Answer::Done(w) => {
+            put(values, 0, w.nodes);
+            0
+        }
+        building::Answer::BadCount => 2,
+        building::Answer::BadTable => 7,
+        building::Answer::BadByte(i) => {
+            put(values, 0, i);
+            8
+        }
+        building::Answer::ShortRoom => 9,
+        building::Answer::NoTree(s) => {
+            put(values, 0, s as usize);
+            10
         }
     }
 }

@@ -4,13 +4,13 @@ use mathlib.Core.List.{List}
 use mathlib.Core.Path.{_∙_, _≡_, ap, refl}
 use Prim.Native.Nat.{_+_, _-_, _<_, _≤_, suc, ℕ}
 use native.Mathlib.Omega.{arith}
-use lib.ListN.{drop, length, length-drop, replicate, take}
-use lib.Seq.{length-take-le}
+use lib.ListN.{drop, length, replicate, take}
 use Rattle.bodies.proofs.Drawn.{tree-below}
-use Rattle.bodies.proofs.Rules.{length-good, no-fault}
+use Rattle.bodies.proofs.Rules.{length-good}
 use Rattle.bodies.specs.Draws.{treeOf}
 use Rattle.bodies.specs.Nodes.{Good, badLength, nodes}
-use Rattle.collections.proofs.Whole.{Whole, good-whole}
+use Rattle.collections.proofs.Whole.{good-whole, whole-long}
+use Rattle.collections.specs.Collection.{Collection}
 use Rattle.collections.specs.Layout.{bodyAt, lengthAt, species, start, trees}
 use Rattle.collections.specs.declared.Counts.{Counts}
 use Rattle.tables.proofs.Bytes.{entered-zeros}
@@ -22,14 +22,17 @@ use Rattle.listing.specs.Adds.{Adds}
 use Rattle.listing.specs.Lists.{Readable, said}
 
 module _ (b : List ℕ) (r : Readable b) where
-  readable : Whole b (r .counts)
-  readable = good-whole b (r .counts) (r .is)
+  counts-are : r .counts ≡ record { n = species b; trees = trees b }
+  counts-are = good-whole b (r .counts) (r .is) .0
+
+  readable : Collection b
+  readable = good-whole b (r .counts) (r .is) .1
 
   pub counts-species : r .counts .n ≡ species b
-  counts-species = ap (λ (c : Counts). c .n) (readable .is)
+  counts-species = ap (λ (c : Counts). c .n) counts-are
 
   pub counts-trees : r .counts .trees ≡ trees b
-  counts-trees = ap (λ (c : Counts). c .trees) (readable .is)
+  counts-trees = ap (λ (c : Counts). c .trees) counts-are
 
   pub most-species : species b ≤ 64
   most-species = readable .most
@@ -37,17 +40,13 @@ module _ (b : List ℕ) (r : Readable b) where
   module _ (k : ℕ) (h : k < trees b) where
     -- the trees up to it lie inside the bytes
     pub inside : (j : ℕ) → j ≤ k → start b (suc j) ≤ length b
-    inside j l = readable .each j (omega arith) .inside
+    inside j l = readable .inside j (omega arith)
 
     body-good : Good (species b) (nodes (bodyAt b k))
-    body-good = no-fault k (species b) (nodes (bodyAt b k)) .0 (readable .each k h .fine)
-
-    long : length (bodyAt b k) ≡ lengthAt b (start b k)
-    unfolding start
-    long = length-take-le (lengthAt b (start b k)) (drop (start b k + 2) b) (omega (arith, length-drop (start b k + 2) b, readable .each k h .inside))
+    body-good = readable .good k h
 
     body-long : badLength (length (bodyAt b k)) ≡ false
-    body-long = rw long (readable .each k h .long)
+    body-long = whole-long b readable k h
 
     -- the bytes that the code hands on
     pub part-in : start b k + 2 ≤ start b (suc k)

@@ -1,12 +1,13 @@
 -- Listing a collection into a table. Document 01, "Numbers handed back": "Listing takes a collection and a table"; "On 0, listing and entering fill
 -- the whole table"; "Listing: the collection's, then 7".
 use mathlib.Core.Path.{_≡_}
-use mathlib.Core.Bool.{cond, false, not}
+use mathlib.Core.Bool.{cond, false}
 use mathlib.Core.List.{List, [], _∷_, _++_}
 use Prim.Native.Nat.{ℕ, zero, suc}
 use lib.Dec.{eqb}
 use lib.ListN.{length}
 use Rattle.trees.specs.Triplets.{Triplets, both, holds}
+use Rattle.tables.specs.Bytes.{wrongRoom}
 use Rattle.tables.specs.Index.{C}
 use Rattle.tables.specs.Filled.{tableFor}
 use Rattle.bodies.specs.Draws.{treeOf}
@@ -64,4 +65,4 @@ listTold BadTable = told 7 []
 
 -- the collection's, then 7
 abbrev pub listOrder : List ℕ → ℕ → List Step
-listOrder b l = readOrder b ++ (step 7 (not (eqb l (C (species b) 3))) [] ∷ [])
+listOrder b l = readOrder b ++ (step 7 (wrongRoom (species b) l) [] ∷ [])

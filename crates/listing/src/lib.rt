@@ -9,7 +9,6 @@ ghost use Rattle.bodies.specs.Nodes.{Good, nodes, badLength};
 ghost use Rattle.bodies.specs.Draws.{treeOf};
 ghost use Rattle.answers.specs.Answers.{Exact};
 ghost use Rattle.collections.specs.Layout.{species, trees};
-ghost use Rattle.collections.specs.Reads.{readAnswer};
 ghost use Rattle.listing.specs.Lists.{Readable, listOf, listAnswer, listAfter};
 ghost use Rattle.listing.specs.Adds.{noted, Drawn, Adds};
 

@@ -9,3 +9,4 @@ pub mod Ordered
 pub mod Forms
 pub mod Induct
 pub mod Zeros
+pub mod Facts

@@ -2,7 +2,7 @@
 -- ab|c, 2 for ac|b, 4 for bc|a, added together; 0 says nothing. More than one bit means that sources disagree."
 use mathlib.Core.Path.{_≡_}
 use mathlib.Core.Logic.{_≢_}
-use mathlib.Core.Bool.{Bool, cond, _&&_, _||_}
+use mathlib.Core.Bool.{Bool, cond, not, _&&_, _||_}
 use mathlib.Core.List.{List, [], _∷_}
 use Prim.Native.Nat.{ℕ, suc, min, max}
 use lib.Dec.{eqb, ltb}
@@ -15,6 +15,10 @@ use Rattle.tables.specs.Index.{C, index, low, mid, high}
 abbrev pub fits : List ℕ → ℕ → Bool
 fits t n = eqb (length t) (C n 3)
 
+-- refusal 7: a table of l bytes for n species, where "the table length is not C(n,3)"
+abbrev pub wrongRoom : ℕ → ℕ → Bool
+wrongRoom n l = not (eqb l (C n 3))
+
 -- the highest byte that a table may hold
 abbrev pub top : ℕ
 top = 7
@@ -23,6 +27,10 @@ top = 7
 unfoldable pub over : List ℕ → ℕ
 over [] = 0
 over (v ∷ t) = cond (ltb top v) 0 (suc (over t))
+
+-- refusal 8: "a table byte is over 7"
+abbrev pub wrongByte : List ℕ → Bool
+wrongByte t = ltb (over t) (length t)
 
 -- where ab|c stands, for three species in any order: the place of their triple, and in its byte the bit 0 (which stands for 1) where c is the
 -- highest of the three, 1 (for 2) where it is the middle one, 2 (for 4) where it is the lowest

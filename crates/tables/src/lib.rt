@@ -25,6 +25,13 @@ pub enum Named {
     Beyond,
 }
 
+// What is entered of a triple a < b < c: ab|c, ac|b, bc|a.
+pub struct Said {
+    pub ab: bool,
+    pub ac: bool,
+    pub bc: bool,
+}
+
 // Where a triplet stands in the table: the place of its byte, and its bit there, which is 1, 2 or 4.
 struct Mark {
     place: usize,
@@ -131,6 +138,19 @@ pub fn byte(t: &[u8], a: usize, b: usize, c: usize) -> u8
 {
     let i = index(a, b, c);
     if i < t.len() { t[i] } else { 0 }
+}
+
+// What is entered of the triple a < b < c.
+pub fn look(t: &[u8], a: usize, b: usize, c: usize) -> Said
+    requires { ⌜ (a < b) × (b < c) × (c < 64) ⌝ }
+    ensures { λ r. ⌜ (r .ab ≡ entered (now (t .entry)) a b c) × (r .ac ≡ entered (now (t .entry)) a c b) × (r .bc ≡ entered (now (t .entry)) b c a) ⌝ }
+{
+    let v = byte(t, a, b, c);
+    Said {
+        ab: v % 2 == 1,
+        ac: v / 2 % 2 == 1,
+        bc: v / 4 % 2 == 1,
+    }
 }
 
 // The lower of two species.

@@ -14,7 +14,7 @@ use Rattle.trees.proofs.Lowest.{Housed, HousedF, lowest-in, lowest-le}
 use Rattle.trees.specs.Trees.{Forest, SameGroups, Tree, cons, degree, groups, groupsF, hang, house, houseF, leaf, lowest, nil, node, under, underF}
 
 -- one step of hanging a child among the others
-by-low {ℓ} : (t u : Tree) (f : Forest) (P : Forest → Type ℓ) → (lowest t < lowest u → P (cons t (cons u f))) → (lowest u ≤ lowest t → P (cons u (hang t f)))
+pub by-low {ℓ} : (t u : Tree) (f : Forest) (P : Forest → Type ℓ) → (lowest t < lowest u → P (cons t (cons u f))) → (lowest u ≤ lowest t → P (cons u (hang t f)))
     → P (hang t (cons u f))
 by-low t u f P p q = go (decLt (lowest t) (lowest u))
   where

@@ -14,13 +14,13 @@ use Rattle.trees.specs.Links.{Closed, Joined, leads, linked, part, parts
 use Rattle.trees.specs.Triplets.{Proper, Triplets}
 
 module _ (E : Triplets) (N : ℕ) (S : Species) (bd : Below N S) where
-  linked-e : (a b : ℕ) → So (linked E N S a b) → So (S a) × So (S b) × ((c : ℕ) × So (S c) × So (E a b c))
+  pub linked-e : (a b : ℕ) → So (linked E N S a b) → So (S a) × So (S b) × ((c : ℕ) × So (S c) × So (E a b c))
   linked-e a b h =
       let h₁ = and-r (S a) _ h in
       let w = any-e N (λ c. S c && E a b c) (and-r (S b) _ h₁) in
       (and-l (S a) _ h, and-l (S b) _ h₁, (w .0, and-l (S w.0) _ (w .2), and-r (S w.0) _ (w .2)))
 
-  linked-i : (a b c : ℕ) → So (S a) → So (S b) → So (S c) → So (E a b c) → So (linked E N S a b)
+  pub linked-i : (a b c : ℕ) → So (S a) → So (S b) → So (S c) → So (E a b c) → So (linked E N S a b)
   linked-i a b c ha hb hc e = and-i (S a) _ ha (and-i (S b) _ hb (any-i N (λ d. S d && E a b d) c (bd c hc) (and-i (S c) _ hc e)))
 
   reach-refl : (k a : ℕ) → So (reach E N S k a a)

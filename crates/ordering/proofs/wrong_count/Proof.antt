@@ -1,0 +1,14 @@
+-- `ordering::wrong_count` meets its contract. Assumes nothing.
+use mathlib.Core.Path.{refl}
+use borrow.Author.Tests.{eq-eqb, ne-eqb}
+use Rattle.ordering.proofs.wrong_count.Statement.{statement}
+use Rattle.ordering.proofs.wrong_count.Tie as tie
+
+returns : tie.Need-returns
+returns c = rw (eq-eqb (c .before .args .n) 0 (c .if1 .taken)) refl
+
+returns-2 : tie.Need-returns-2
+returns-2 c = rw (ne-eqb (c .before .args .n) 0 (c .if1 .left)) refl
+
+pub wrong-count-spec : {M : Type 1} → statement M
+wrong-count-spec = tie.close (tie.spec returns returns-2)

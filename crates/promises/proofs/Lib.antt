@@ -1,0 +1,12 @@
+-- The three demands, proved. `Promises` is the page to read; the other files hold what it takes.
+pub mod Gives
+pub mod Kept
+pub mod Tabled
+pub mod Listed
+pub mod Entered
+pub mod Wrote
+pub mod Ordered
+pub mod Built
+pub mod Alone
+pub mod Rebuilt
+pub mod Promises

@@ -1,0 +1,138 @@
+-- Demand 2, in words over trees: nothing here mentions how a tree is built. "The builder gives [a tree] which holds every triplet entered; it refuses
+-- good input exactly when no rooted tree holds them all, naming three or more species whose links inside that set join them all."
+use mathlib.Core.Bool.{So, false}
+use mathlib.Core.List.{List, [], _∷_}
+use mathlib.Core.Logic.{_↔_, _≢_, _⊎_}
+use mathlib.Core.Path.{_≡_}
+use Prim.Native.Nat.{ℕ, _*_, _<_, _≤_}
+use lib.ListN.{drop, getD, length, take}
+use Rattle.sets.specs.Sets.{has, size}
+use Rattle.sets.specs.Species.{Inside, Species, below}
+use Rattle.trees.specs.Held.{CanBeHeld, HeldBy}
+use Rattle.trees.specs.Links.{JoinedByWalks}
+use Rattle.trees.specs.Trees.{SameGroups, inHouseOrder}
+use Rattle.trees.specs.Triplets.{Triplets, holds}
+use Rattle.tables.specs.Bytes.{entered, top}
+use Rattle.tables.specs.Index.{C}
+use Rattle.bodies.specs.Draws.{treeOf}
+use Rattle.bodies.specs.Nodes.{Good, badLength, nodes, roomFor, width}
+use Rattle.answers.specs.Answers.{node-count, species-count, stopping-set, told, tree-count}
+use Rattle.collections.specs.Collection.{Collection}
+use Rattle.collections.specs.Layout.{bodyAt, species, trees}
+use Rattle.entering.specs.Enters.{left, outer, right}
+use Rattle.promises.specs.Candidates.{Builder, Enterer, Given, Lister, Operations, Orderer}
+
+-- ---- what is good input
+
+-- n species
+pub record Count (n : ℕ) : Type 0 where
+  pub some : 0 < n
+  pub most : n ≤ 64
+
+-- a table of n species
+pub record Table (n : ℕ) (t : List ℕ) : Type 0 where
+  pub long : length t ≡ C n 3
+  pub small : (i : ℕ) → getD t i 0 ≤ top
+
+-- a body of a tree with species below n
+pub record Body (n : ℕ) (b : List ℕ) : Type 0 where
+  pub good : Good n (nodes b)
+  pub long : badLength (length b) ≡ false
+
+-- a record of three different species below n
+pub record Triplet (n : ℕ) (r : List ℕ) : Type 0 where
+  pub left-below : left r < n
+  pub right-below : right r < n
+  pub outer-below : outer r < n
+  pub pair : left r ≢ right r
+  pub left-outer : left r ≢ outer r
+  pub right-outer : right r ≢ outer r
+
+-- ---- listing: the bits of all trees
+
+-- some tree of the collection holds xy|z
+abbrev pub SomeTreeHolds : List ℕ → ℕ → ℕ → ℕ → Type 0
+SomeTreeHolds b x y z = (k : ℕ) × (k < trees b) × So (holds (treeOf (bodyAt b k)) x y z)
+
+pub record Lists (b : List ℕ) (g : Given) : Type 0 where
+  pub told-is : g .told ≡ told 0 (species-count (species b) ∷ tree-count (trees b) ∷ [])
+  pub table : Table (species b) (g .after)
+  pub bits : (x y z : ℕ) → So (entered (g .after) x y z) ↔ SomeTreeHolds b x y z
+
+abbrev pub ListsAll : Lister → Type 0
+ListsAll f = (b t : List ℕ) → Collection b → length t ≡ C (species b) 3 → Lists b (f b t)
+
+-- ---- entering: exactly the triplets in the records
+
+-- the record says xy|z, "the first two being the close pair in either order"
+abbrev pub RecordSays : List ℕ → ℕ → ℕ → ℕ → Type 0
+RecordSays r x y z = (((left r ≡ x) × (right r ≡ y)) ⊎ ((left r ≡ y) × (right r ≡ x))) × (outer r ≡ z)
+
+abbrev pub SomeRecordSays : List (List ℕ) → ℕ → ℕ → ℕ → Type 0
+SomeRecordSays rs x y z = (i : ℕ) × (i < length rs) × RecordSays (getD rs i []) x y z
+
+pub record Enters (n : ℕ) (rs : List (List ℕ)) (g : Given) : Type 0 where
+  pub told-is : g .told ≡ told 0 (species-count n ∷ [])
+  pub table : Table n (g .after)
+  pub bits : (x y z : ℕ) → So (entered (g .after) x y z) ↔ SomeRecordSays rs x y z
+
+abbrev pub EntersAll : Enterer → Type 0
+EntersAll f = (n : ℕ) (rs : List (List ℕ)) (t : List ℕ) → Count n → length t ≡ C n 3 → ((i : ℕ) → i < length rs → Triplet n (getD rs i [])) → Enters n rs (f n rs t)
+
+-- ---- a body that was written
+
+-- the first 2 × (node count) bytes of the room
+abbrev pub front : ℕ → List ℕ → List ℕ
+front k o = take (width * k) o
+
+-- in the room o a good body of k nodes was written, which gave o′: behind it nothing has changed
+pub record Wrote (n k : ℕ) (o o′ : List ℕ) : Type 0 where
+  pub body : Body n (front k o′)
+  pub count : nodes (front k o′) .count ≡ k
+  pub behind : drop (width * k) o′ ≡ drop (width * k) o
+
+-- ---- house order
+
+pub record Orders (n : ℕ) (b o : List ℕ) (g : Given) : Type 0 where
+  pub count : ℕ
+  pub told-is : g .told ≡ told 0 (node-count count ∷ [])
+  pub wrote : Wrote n count o (g .after)
+  pub housed : So (inHouseOrder (treeOf (front count (g .after))))
+  pub groups : SameGroups (treeOf (front count (g .after))) (treeOf b)
+
+abbrev pub OrdersAll : Orderer → Type 0
+OrdersAll f = (n : ℕ) (b o : List ℕ) → Count n → Body n b → length b ≤ length o → Orders n b o (f n b o)
+
+-- ---- the builder, for the entered triplets E and the species S
+
+-- a tree with exactly the species, which holds every entered triplet, in house order
+pub record Keeps (E : Triplets) (n : ℕ) (S : Species) (o : List ℕ) (g : Given) : Type 0 where
+  pub count : ℕ
+  pub told-is : g .told ≡ told 0 (node-count count ∷ [])
+  pub wrote : Wrote n count o (g .after)
+  pub held : HeldBy E S (treeOf (front count (g .after)))
+  pub housed : So (inHouseOrder (treeOf (front count (g .after))))
+
+-- a set of three or more species, which links inside it join
+pub record Shows (E : Triplets) (S : Species) (g : Given) : Type 0 where
+  pub set : ℕ
+  pub told-is : g .told ≡ told 10 (stopping-set set ∷ [])
+  pub inside : Inside (has set) S
+  pub three : 3 ≤ size set
+  pub joined : JoinedByWalks E (has set)
+
+pub record Builds (E : Triplets) (n : ℕ) (S : Species) (o : List ℕ) (g : Given) : Type 0 where
+  pub settled : (g .told .number ≡ 0) ⊎ (g .told .number ≡ 10)
+  pub keeps : g .told .number ≡ 0 → Keeps E n S o g
+  pub refuses : (g .told .number ≡ 10) ↔ (CanBeHeld E S → ⊥)
+  pub shows : g .told .number ≡ 10 → Shows E S g
+
+-- in the base S is all n species
+abbrev pub BuildsAll : Builder → Type 0
+BuildsAll f = (n : ℕ) (t o : List ℕ) → Count n → Table n t → roomFor n ≤ length o → Builds (entered t) n (below n) o (f n t o)
+
+pub record Demand2 (L : Operations) : Type 0 where
+  pub listing : ListsAll (L .list)
+  pub entering : EntersAll (L .enter)
+  pub ordering : OrdersAll (L .order)
+  pub building : BuildsAll (L .build)

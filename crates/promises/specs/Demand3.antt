@@ -1,0 +1,42 @@
+-- Demand 3: "Listing loses nothing: two good trees with every species give the same table exactly when they have the same groups; from such a table, with
+-- the room named, the builder never refuses and returns that tree's groups and no others, in house order."
+use mathlib.Core.List.{List, [], _∷_}
+use mathlib.Core.Logic.{_↔_}
+use mathlib.Core.Path.{_≡_}
+use Prim.Native.Nat.{ℕ, _≤_, _/_, _%_}
+use lib.ListN.{length}
+use Rattle.sets.specs.Species.{below}
+use Rattle.trees.specs.Trees.{SameGroups, under}
+use Rattle.tables.specs.Index.{C}
+use Rattle.bodies.specs.Draws.{ordered, treeOf}
+use Rattle.bodies.specs.Nodes.{roomFor}
+use Rattle.answers.specs.Answers.{node-count, told}
+use Rattle.promises.specs.Candidates.{Given, Lister, Operations}
+use Rattle.promises.specs.Demand2.{Body, Count, Wrote, front}
+
+-- the body of a good tree with every one of n species
+pub record Full (n : ℕ) (b : List ℕ) : Type 0 where
+  pub body : Body n b
+  pub every : (x : ℕ) → under (treeOf b) x ≡ below n x
+
+-- the collection of one tree
+abbrev pub alone : ℕ → List ℕ → List ℕ
+alone n b = 1 ∷ n ∷ 1 ∷ length b / 256 ∷ length b % 256 ∷ b
+
+-- its table, as f lists it over what t held
+abbrev pub tableOf : Lister → ℕ → List ℕ → List ℕ → List ℕ
+tableOf f n b t = f (alone n b) t .after
+
+-- that tree's house-order body, with its groups and no others, was written
+pub record Returns (n : ℕ) (b o : List ℕ) (g : Given) : Type 0 where
+  pub count : ℕ
+  pub told-is : g .told ≡ told 0 (node-count count ∷ [])
+  pub wrote : Wrote n count o (g .after)
+  pub body : front count (g .after) ≡ ordered b
+  pub groups : SameGroups (treeOf (front count (g .after))) (treeOf b)
+
+pub record Demand3 (L : Operations) : Type 0 where
+  pub known : (n : ℕ) (b b′ t t′ : List ℕ) → Count n → Full n b → Full n b′ → length t ≡ C n 3 → length t′ ≡ C n 3
+      → (tableOf (L .list) n b t ≡ tableOf (L .list) n b′ t′) ↔ SameGroups (treeOf b) (treeOf b′)
+  pub rebuilt : (n : ℕ) (b t o : List ℕ) → Count n → Full n b → length t ≡ C n 3 → roomFor n ≤ length o
+      → Returns n b o (L .build n (tableOf (L .list) n b t) o)

@@ -1,0 +1,83 @@
+-- The loop's invariant: the rows have what the triples tell whose highest species is not left. Assumes nothing.
+use mathlib.Core.Path.{_∙_, _≡_, ap}
+use native.Mathlib.Omega.{arith}
+use borrow.Author.Needs.{needs}
+use Rattle.sets.specs.Sets.{meet, size, upto}
+use Rattle.tables.proofs.Bytes.{entered-proper}
+use Rattle.tables.specs.Bytes.{entered}
+use Rattle.splitting.proofs.Linking.{grown-under, triples-show, under-below}
+use Rattle.splitting.proofs.Stores.{square-none}
+use Rattle.splitting.proofs.Walks.{Walked, walk-end, walk-next, walk-start}
+use Rattle.splitting.specs.Rows.{InLevel}
+use Rattle.splitting.proofs.links.Statement.{statement}
+use Rattle.splitting.proofs.links.Tie as tie
+
+abbrev Inv-loop : tie.InvT-loop
+Inv-loop t s g₀ left₀ g left = Walked s (λ c. InLevel (entered t) (meet s (upto c)) c) g₀ g left
+
+abbrev μ-loop : tie.MeasureT-loop
+μ-loop t s g₀ left₀ g left = size left
+
+loop-holds : tie.Need-loop-holds Inv-loop μ-loop
+loop-holds c = walk-start square-none
+
+lowest-requires : tie.Need-lowest-requires Inv-loop μ-loop
+lowest-requires c κs = search needs
+
+all-requires : tie.Need-all-requires Inv-loop μ-loop
+all-requires c κs = omega (arith, c .lowest .ensures .small (c .before .loop-test .taken))
+
+meet-requires : tie.Need-meet-requires Inv-loop μ-loop
+meet-requires c κs = search needs
+
+-- the species of s below the lowest of those left
+under : (c : tie.After-meet Inv-loop μ-loop)
+    → c .meet .result ≡ meet (c .before .before .before .before .before .before .args .s) (upto (c .before .before .lowest .result))
+under c = c .meet .ensures ∙ ap (meet (c .before .before .before .before .before .before .args .s)) (c .before .all .ensures)
+
+level-requires : tie.Need-level-requires Inv-loop μ-loop
+level-requires c κs =
+    let m = c .before in
+    let k = m .before .before in
+    let i = k .before in
+    let s = i .before .before .before in (
+      under-below (s .args .s) (k .lowest .result) (m .meet .result) (under m),
+      k .lowest .ensures .small (i .loop-test .taken),
+      i .before .loop .inv .grown .square,
+    )
+
+rest-requires : tie.Need-rest-requires Inv-loop μ-loop
+rest-requires c κs = search needs
+
+loop-less : tie.Need-loop-less Inv-loop μ-loop
+loop-less c = omega (arith, c .rest .ensures .fewer (c .before .before .before .before .before .before .loop-test .taken))
+
+loop-again : tie.Need-loop-again Inv-loop μ-loop
+loop-again c =
+    let m = c .before .before .before in
+    let k = m .before .before in
+    let i = k .before in
+    let a = i .before .before .before .args in
+    let r = grown-under (a .s) (k .lowest .result) (m .meet .result) (under m) (λ z. InLevel (entered (a .t .now)) z (k .lowest .result)) (c .before .level .ensures) in
+    walk-next (i .loop-test .taken) (k .lowest .ensures) (c .rest .ensures) r (i .before .loop .inv)
+
+returns : tie.Need-returns Inv-loop μ-loop
+returns c =
+    let a = c .before .before .before .args in
+    triples-show (entered (a .t .now)) (entered-proper (a .t .now)) (a .s) (omega arith) (walk-end (c .loop-test .left) (c .before .loop .inv))
+
+pub links-spec : {M : Type 1} → statement M
+links-spec =
+    tie.close
+    (tie.spec
+    Inv-loop
+    μ-loop
+    loop-holds
+    lowest-requires
+    all-requires
+    meet-requires
+    level-requires
+    rest-requires
+    loop-less
+    loop-again
+    returns)

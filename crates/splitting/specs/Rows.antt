@@ -1,0 +1,63 @@
+-- The links on a set as rows of flags, 64 by 64, and what the private functions tell of them.
+use mathlib.Core.Bool.{Bool, So, false}
+use mathlib.Core.List.{List, []}
+use mathlib.Core.Logic.{_↔_, _⊎_}
+use mathlib.Core.Path.{_≡_}
+use Prim.Native.Nat.{_<_, ℕ}
+use lib.ListN.{getD, length}
+use Rattle.sets.specs.Sets.{has, meet, upto}
+use Rattle.sets.specs.Species.{Species}
+use Rattle.trees.specs.Links.{linked}
+use Rattle.trees.specs.Triplets.{Triplets}
+
+abbrev pub Rows : Type 0
+Rows = List (List Bool)
+
+abbrev pub flag : Rows → ℕ → Species
+flag g i j = getD (getD g i []) j false
+
+pub record Square (g : Rows) : Type 0 where
+  pub rows : length g ≡ 64
+  pub flags : (i : ℕ) → i < 64 → length (getD g i []) ≡ 64
+
+-- the rows say which species are linked on s
+unfoldable pub Shows : Rows → Triplets → ℕ → Type 0
+Shows g E s = (x y : ℕ) → flag g x y ≡ linked E 64 (has s) x y
+
+-- ---- what is linked on the way
+
+-- x and y are a and b, in either order, and it is on
+abbrev pub Pair : Bool → ℕ → ℕ → ℕ → ℕ → Type 0
+Pair on a b x y = So on × (((x ≡ a) × (y ≡ b)) ⊎ ((x ≡ b) × (y ≡ a)))
+
+-- a triplet on the three species puts x and y together
+abbrev pub Ties : Triplets → ℕ → ℕ → ℕ → ℕ → ℕ → Type 0
+Ties E a b c x y = Pair (E a b c) a b x y ⊎ (Pair (E a c b) a c x y ⊎ Pair (E b c a) b c x y)
+
+-- Q of some species of s
+abbrev pub Some : ℕ → (ℕ → ℕ → ℕ → Type 0) → ℕ → ℕ → Type 0
+Some s Q x y = (k : ℕ) × So (has s k) × Q k x y
+
+-- what triples tell: those with b and c, the lowest from s; those with c, the two others from s
+abbrev pub InRow : Triplets → ℕ → ℕ → ℕ → ℕ → ℕ → Type 0
+InRow E s b c = Some s (λ a. Ties E a b c)
+
+abbrev pub InLevel : Triplets → ℕ → ℕ → ℕ → ℕ → Type 0
+InLevel E s c = Some s (λ b. InRow E (meet s (upto b)) b c)
+
+-- g′ has the flags of g, and those that R tells
+pub record Grown (R : ℕ → ℕ → Type 0) (g g′ : Rows) : Type 0 where
+  pub square : Square g′
+  pub flags : (x y : ℕ) → So (flag g′ x y) ↔ (So (flag g x y) ⊎ R x y)
+
+-- ---- what is reached
+
+-- a set that has, with a species, all that the rows link it to
+abbrev pub Kept : Rows → Species → Type 0
+Kept g X = (i j : ℕ) → So (X i) → j < 64 → So (flag g i j) → So (X j)
+
+-- r is the least such set with a
+pub record Flooded (g : Rows) (a r : ℕ) : Type 0 where
+  pub start : So (has r a)
+  pub kept : Kept g (has r)
+  pub least : (X : Species) → Kept g X → So (X a) → (j : ℕ) → So (has r j) → So (X j)
