@@ -5,7 +5,7 @@ mod clock;
 mod shapes;
 mod twin;
 
-use shapes::{body, collection, shuffled, Dice, Shape, SHAPES};
+use shapes::{body, candidates, collection, shuffled, Candidate, Dice, Shape, SHAPES};
 use std::hint::black_box;
 use std::time::Duration;
 
@@ -16,6 +16,7 @@ const BODY_ROOM: usize = 254;
 const TWIN_LIMIT: f64 = 1.3;
 const ORDER_LIMIT: f64 = 1.5;
 const TREES_LIMIT: f64 = 17.0;
+const CHECK_GUIDES: [f64; 4] = [10.0, 20.0, 10.0, 50.0];
 const ROUNDS: usize = 301;
 const SAMPLE: Duration = Duration::from_micros(1_000);
 
@@ -24,6 +25,7 @@ type List = fn(&[u8], &mut [u8], &mut [usize]) -> usize;
 
 // Putting in house order, or building: from n and a body or a table to a body.
 type Make = fn(usize, &[u8], &mut [u8], &mut [usize]) -> usize;
+type Check = fn(usize, &[u8], &[u8], &mut [usize]) -> usize;
 
 struct Run {
     shape: Shape,
@@ -58,6 +60,11 @@ fn calls_in_a_sample(work: &mut dyn FnMut()) -> u32 {
 
 // Times the two alternately, the first to go changing each round: prints the medians, and says whether the ratio is within the limit.
 fn within(name: &str, limit: f64, one: &mut dyn FnMut(), other: &mut dyn FnMut()) -> bool {
+    compared(name, limit, one, other).0
+}
+
+// The same, with the first one's median in microseconds.
+fn compared(name: &str, limit: f64, one: &mut dyn FnMut(), other: &mut dyn FnMut()) -> (bool, f64) {
     let (one_calls, other_calls) = (calls_in_a_sample(one), calls_in_a_sample(other));
     let micros = |work: &mut dyn FnMut(), calls| timed(work, calls).as_secs_f64() * 1e6 / calls as f64;
     let (mut times, mut others, mut ratios) = (Vec::new(), Vec::new(), Vec::new());
@@ -74,11 +81,11 @@ fn within(name: &str, limit: f64, one: &mut dyn FnMut(), other: &mut dyn FnMut()
         others.push(y);
         ratios.push(x / y);
     }
-    let ratio = median(ratios);
+    let (time, ratio) = (median(times), median(ratios));
     let met = ratio <= limit;
     let verdict = if met { "met" } else { "NOT MET" };
-    println!("{name:<36} {:>10.2} us {:>10.2} us   ratio {ratio:>6.3}   limit {limit}: {verdict}", median(times), median(others));
-    met
+    println!("{name:<43} {time:>10.2} us {:>10.2} us   ratio {ratio:>6.3}   limit {limit}: {verdict}", median(others));
+    (met, time)
 }
 
 fn reading<'a>(read: Read, bytes: &'a [u8]) -> impl FnMut() + 'a {
@@ -106,6 +113,13 @@ fn making<'a>(make: Make, bytes: &'a [u8]) -> impl FnMut() + 'a {
     }
 }
 
+fn checking<'a>(check: Check, candidate: &'a Candidate) -> impl FnMut() + 'a {
+    let mut values = [0; 4];
+    move || {
+        black_box(check(N as usize, black_box(&candidate.table), black_box(&candidate.body), &mut values));
+    }
+}
+
 // What both calls answer, on a table and values that held something else.
 fn answers(read: Read, list: List, bytes: &[u8]) -> (usize, [usize; 4], usize, [usize; 4], Vec<u8>) {
     let (mut values, mut list_values, mut table) = ([77; 4], [77; 4], vec![0xa5; ROOM]);
@@ -118,6 +132,12 @@ fn answers(read: Read, list: List, bytes: &[u8]) -> (usize, [usize; 4], usize, [
 fn made(make: Make, bytes: &[u8]) -> (usize, [usize; 4], Vec<u8>) {
     let (mut values, mut room) = ([77; 4], vec![0xa5; BODY_ROOM]);
     (make(N as usize, bytes, &mut room, &mut values), values, room)
+}
+
+// What the check answers, on values that held something else.
+fn checked(check: Check, candidate: &Candidate) -> (usize, [usize; 4]) {
+    let mut values = [77; 4];
+    (check(N as usize, &candidate.table, &candidate.body, &mut values), values)
 }
 
 fn run(shape: Shape) -> Run {
@@ -138,6 +158,7 @@ fn differ(shape: Shape) -> ! {
 
 fn main() {
     let runs: Vec<Run> = SHAPES.iter().map(|&shape| run(shape)).collect();
+    let candidates = candidates();
 
     for run in &runs {
         for bytes in [&run.one, &run.sixteen] {
@@ -153,6 +174,16 @@ fn main() {
         // The tree built from a tree's own table is that tree.
         if house != made(twin::build, &run.table) || house != made(boundary::build, &run.table) {
             differ(run.shape);
+        }
+    }
+    for candidate in &candidates {
+        let mut wanted = [77; 4];
+        wanted[..candidate.values.len()].copy_from_slice(candidate.values);
+        for check in [boundary::check, twin::check] {
+            if checked(check, candidate) != (candidate.number, wanted) {
+                println!("{}: the library and the twin do not both answer {} with {:?}", candidate.name, candidate.number, candidate.values);
+                std::process::exit(1);
+            }
         }
     }
     println!("64 species; 16 trees are the same tree 16 times; the table is not cleared before a call, which fills all of it.");
@@ -173,6 +204,18 @@ fn main() {
         met &= within(&name, ORDER_LIMIT, &mut making(boundary::order, tree), &mut making(twin::order, tree));
         let name = format!("build {shape:?}");
         met &= within(&name, TWIN_LIMIT, &mut making(boundary::build, table), &mut making(twin::build, table));
+    }
+    let mut times = Vec::new();
+    for candidate in &candidates {
+        let name = format!("check {}", candidate.name);
+        let (check_met, time) = compared(&name, TWIN_LIMIT, &mut checking(boundary::check, candidate), &mut checking(twin::check, candidate));
+        met &= check_met;
+        times.push(time / 1e3);
+    }
+    println!("library, the check's time beside a guide, which is no limit:");
+    for ((candidate, time), guide) in candidates.iter().zip(times).zip(CHECK_GUIDES) {
+        let verdict = if time <= guide { "within" } else { "over" };
+        println!("check {:<37} {time:>10.2} ms   guide {guide} ms: {verdict}", candidate.name);
     }
     println!("library, 16 trees against one tree:");
     for Run { shape, one, sixteen, .. } in &runs {

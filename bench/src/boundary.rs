@@ -18,6 +18,8 @@ extern "C" {
     fn koodhaxil_order(n: usize, body: *const u8, body_len: usize, room: *mut u8, room_len: usize, values: *mut usize, values_len: usize) -> usize;
 
     fn koodhaxil_build(n: usize, t: *const u8, t_len: usize, room: *mut u8, room_len: usize, values: *mut usize, values_len: usize) -> usize;
+
+    fn koodhaxil_check(n: usize, t: *const u8, t_len: usize, body: *const u8, body_len: usize, values: *mut usize, values_len: usize) -> usize;
 }
 
 /// Reads a collection: document 01's number, with what is returned beside it laid into `values`.
@@ -49,4 +51,10 @@ pub fn order(n: usize, body: &[u8], room: &mut [u8], values: &mut [usize]) -> us
 pub fn build(n: usize, t: &[u8], room: &mut [u8], values: &mut [usize]) -> usize {
     // SAFETY: as above.
     unsafe { koodhaxil_build(n, t.as_ptr(), t.len(), room.as_mut_ptr(), room.len(), values.as_mut_ptr(), values.len()) }
+}
+
+/// Checks the candidate of a body against the table `t` over `n` species: the number and the values as for `read`.
+pub fn check(n: usize, t: &[u8], body: &[u8], values: &mut [usize]) -> usize {
+    // SAFETY: as above.
+    unsafe { koodhaxil_check(n, t.as_ptr(), t.len(), body.as_ptr(), body.len(), values.as_mut_ptr(), values.len()) }
 }

@@ -1,7 +1,8 @@
 // A second implementation, from document 01 alone and by another way: a tree is a nest of lists, a triplet is held where a scan of all groups finds
 // one with a and b and without c, an entered one where a scan of all records finds it, and the table is written and read from its first byte to its
 // last, without an index. House order comes from sorting the nest when it is written. Building turns the table into a list of triplets, and joins
-// lists of species for each triplet that has its three in the set.
+// lists of species for each triplet that has its three in the set. Checking makes the list of the entered triplets on the triples that the tree
+// resolves, and builds that list with one other triplet more, twice for each triplet of the tree.
 
 pub struct Told {
     pub number: usize,
@@ -156,6 +157,16 @@ fn written(tree: &Tree) -> (Told, Option<Vec<u8>>) {
     (told(0, &[body.len() / 2]), Some(body))
 }
 
+// The three triplets [a, b, c] for ab|c on a triple, in the order of their bits.
+fn three([a, b, c]: [usize; 3]) -> [[usize; 3]; 3] {
+    [[a, b, c], [a, c, b], [b, c, a]]
+}
+
+// The triplets that a byte says of a triple.
+fn entered(triple: [usize; 3], byte: u8) -> Vec<[usize; 3]> {
+    three(triple).into_iter().zip([1, 2, 4]).filter(|(_, bit)| byte & bit != 0).map(|(triplet, _)| triplet).collect()
+}
+
 // The tree over a sorted set that holds these triplets [a, b, c] for ab|c, or the first set that stops.
 fn built(set: Vec<usize>, triplets: &[[usize; 3]]) -> Result<Tree, Vec<usize>> {
     if let [only] = set[..] {
@@ -253,16 +264,58 @@ pub fn build(n: usize, table: &[u8], room: usize) -> (Told, Option<Vec<u8>>) {
     if room < 4 * n - 2 {
         return (told(9, &[]), None);
     }
-    let mut triplets = Vec::new();
-    for (&[a, b, c], byte) in triples.iter().zip(table) {
-        for (bit, triplet) in [(1, [a, b, c]), (2, [a, c, b]), (4, [b, c, a])] {
-            if byte & bit != 0 {
-                triplets.push(triplet);
-            }
-        }
-    }
+    let triplets: Vec<[usize; 3]> = triples.iter().zip(table).flat_map(|(&triple, &byte)| entered(triple, byte)).collect();
     match built((0..n).collect(), &triplets) {
         Ok(tree) => written(&tree),
         Err(set) => (told(10, &[set.iter().map(|s| 1 << s).sum()]), None),
+    }
+}
+
+// A triple that the candidate resolves: its index and its byte, the triplet that the candidate holds, and the two others.
+struct Resolved {
+    index: usize,
+    byte: u8,
+    own: [usize; 3],
+    others: Vec<[usize; 3]>,
+}
+
+/// What checking a body against a table over `n` species tells.
+pub fn check(n: usize, table: &[u8], body: &[u8]) -> Told {
+    if !(1..=64).contains(&n) {
+        return told(2, &[]);
+    }
+    let triples = triples(n);
+    if table.len() != triples.len() {
+        return told(7, &[]);
+    }
+    if let Some(first) = table.iter().position(|&byte| byte > 7) {
+        return told(8, &[first]);
+    }
+    if !(1..=254).contains(&body.len()) || body.len() % 2 == 1 {
+        return told(5, &[0]);
+    }
+    let mut groups = Vec::new();
+    match tree_of(body, n) {
+        Err([node, fault, carried]) => return told(6, &[0, node, fault, carried]),
+        Ok(tree) => gather(&tree, &mut groups),
+    };
+    let (mut resolved, mut r) = (Vec::new(), Vec::new());
+    for (index, (&triple, &byte)) in triples.iter().zip(table).enumerate() {
+        let (own, others): (Vec<_>, Vec<_>) = three(triple).into_iter().partition(|&[a, b, c]| holds(&groups, a, b, c));
+        if let [own] = own[..] {
+            resolved.push(Resolved { index, byte, own, others });
+            r.extend(entered(triple, byte));
+        }
+    }
+    let no_tree = |more: &[[usize; 3]]| built((0..n).collect(), &[&r, more].concat()).is_err();
+    let differs = resolved.iter().find(|x| x.others.iter().any(|other| r.contains(other)));
+    let held: Vec<[usize; 3]> = resolved.iter().map(|x| x.own).collect();
+    assert_eq!(differs.is_some(), no_tree(&held), "one tree holds the candidate's triplets and R exactly where no entered bit differs");
+    if let Some(x) = differs {
+        return told(11, &[x.index, x.byte as usize]);
+    }
+    match resolved.iter().find(|x| !x.others.iter().all(|&other| no_tree(&[other]))) {
+        Some(x) => told(12, &[x.index]),
+        None => told(0, &[]),
     }
 }

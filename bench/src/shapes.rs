@@ -1,4 +1,4 @@
-// Collections to run on. What is random comes from a fixed seed, so every run has the same ones.
+// Collections and candidates to run on. What is random comes from a fixed seed, so every run has the same ones.
 
 /// Numbers from a seed (splitmix64).
 pub struct Dice(pub u64);
@@ -69,4 +69,79 @@ pub fn collection(n: u8, bodies: &[Vec<u8>]) -> Vec<u8> {
         bytes.extend(body);
     }
     bytes
+}
+
+/// The body of a tree whose root has the trees of these bodies as its children.
+pub fn joined(children: &[Vec<u8>]) -> Vec<u8> {
+    let mut body = vec![255, 255];
+    for child in children {
+        let first = (body.len() / 2) as u8;
+        for node in child.chunks(2) {
+            body.extend([if node[0] == 255 { 0 } else { first + node[0] }, node[1]]);
+        }
+    }
+    body
+}
+
+/// A candidate of 64 species and a table to check it against, with the number and the values of the answer.
+pub struct Candidate {
+    pub name: &'static str,
+    pub body: Vec<u8>,
+    pub table: Vec<u8>,
+    pub number: usize,
+    pub values: &'static [usize],
+}
+
+// The table of 64 species with these bytes for a < b < c.
+fn table(byte: impl Fn(usize, usize, usize) -> u8) -> Vec<u8> {
+    let mut table = Vec::new();
+    for c in 0..64 {
+        for b in 0..c {
+            for a in 0..b {
+                table.push(byte(a, b, c));
+            }
+        }
+    }
+    table
+}
+
+/// Candidates that take the check long, each by another way.
+pub fn candidates() -> [Candidate; 4] {
+    let all: Vec<u8> = (0..64).collect();
+    let still = &mut Dice(0);
+    // ((..((0,1),2)..),63): on every triple a < b < c it holds ab|c.
+    let nested = body(Shape::Nested, &all, still);
+    let balanced = body(Shape::Balanced, &all, still);
+    // Under the root ((..(((..((0,1),2)..,25),52),53)..),63) and ((..((26,27),28)..),51).
+    let one: Vec<u8> = (0..26).chain(52..64).collect();
+    let other: Vec<u8> = (26..52).collect();
+    let peeled = joined(&[body(Shape::Nested, &one, still), body(Shape::Nested, &other, still)]);
+    let held = |a, b| if a < 26 && b >= 26 { 4 } else { 1 };
+    [
+        Candidate { name: "nested, its whole table", body: nested.clone(), table: vec![1; 41_664], number: 0, values: &[] },
+        Candidate {
+            name: "nested, each c with the two before it",
+            body: nested,
+            table: table(|a, b, c| (a + 2 == c && b + 1 == c) as u8),
+            number: 0,
+            values: &[],
+        },
+        Candidate {
+            name: "balanced, its whole table",
+            body: balanced,
+            // Halves of consecutive species: the two whose first bits agree longer are close.
+            table: table(|a, b, c| if a ^ b < b ^ c { 1 } else { 4 }),
+            number: 0,
+            values: &[],
+        },
+        // Entered: what the tree holds of 0 to 51, and 0i|i+1 for i from 52 to 62. The chain of sets for one of 0 to 25 and one of 26 to 51 loses 63
+        // first, then 62, one at each step down to 52. The first triplet that is not forced is (0,1)|52.
+        Candidate {
+            name: "peeled, one species at each step",
+            body: peeled,
+            table: table(|a, b, c| if c < 52 { held(a, b) } else { (a == 0 && b >= 52 && b + 1 == c) as u8 }),
+            number: 12,
+            values: &[22_100],
+        },
+    ]
 }

@@ -1,13 +1,15 @@
 // Tries the library on good and bad input. The answers of the fixed list are written out by hand from document 01; those of the random collections,
-// lists of records, bodies and tables come from `plain`. What a call must leave alone holds a pattern before it, and is compared after it.
+// lists of records, bodies, tables and candidates, and of all small candidates, come from `plain`. What a call must leave alone holds a pattern
+// before it, and is compared after it.
 
 mod boundary;
 mod plain;
 mod shapes;
 
 use plain::Told;
-use shapes::{body, collection, shuffled, Dice, Shape, SHAPES};
+use shapes::{body, candidates, collection, joined, shuffled, Dice, Shape, SHAPES};
 use std::fmt::Debug;
+use std::hint::black_box;
 
 const SEED: u64 = 20_071;
 const COLLECTIONS: usize = 100_000;
@@ -15,6 +17,7 @@ const LISTS: usize = 20_000;
 const BODIES: usize = 50_000;
 const TABLES: usize = 50_000;
 const TREES: usize = 5_000;
+const CANDIDATES: usize = 30_000;
 const MOST_VALUES: usize = 6;
 const SHOWN: usize = 3;
 
@@ -26,6 +29,8 @@ enum Call<'a> {
     Enter(usize, &'a [[u8; 3]], usize),
     Order(usize, &'a [u8], usize),
     Build(usize, &'a [u8], usize),
+    // A table and a body, which are only read.
+    Check(usize, &'a [u8], &'a [u8]),
 }
 
 #[derive(PartialEq, Debug)]
@@ -43,14 +48,18 @@ struct Tally {
 }
 
 impl Tally {
-    // One call with `places` places for values. The front of what is lent is to become `filled`; what is behind it, or all, is to stay.
+    // One call with `places` places for values. The front of what is lent is to become `filled`; what is behind it, or all, is to stay. To the check
+    // a copy of the table and the body is lent, and it is to stay too.
     fn call(&mut self, name: &str, call: Call, places: usize, told: &Told, filled: Option<&[u8]>) {
         let room = match call {
-            Call::Read(_) => 0,
+            Call::Read(_) | Call::Check(..) => 0,
             Call::List(_, room) | Call::Enter(_, _, room) | Call::Order(_, _, room) | Call::Build(_, _, room) => room,
         };
         let mut values: Vec<usize> = (0..places).map(|i| 9_000_000_000 + i).collect();
         let mut lent: Vec<u8> = (0..room).map(|i| (i % 251) as u8 ^ 0xa5).collect();
+        if let Call::Check(_, table, body) = call {
+            lent = [table, body].concat();
+        }
         let mut wanted = Outcome { number: told.number, values: values.clone(), lent: lent.clone() };
         for (place, x) in wanted.values.iter_mut().zip(&told.values) {
             *place = *x;
@@ -64,7 +73,10 @@ impl Tally {
             Call::Enter(n, records, _) => boundary::enter(n, records, &mut lent, &mut values),
             Call::Order(n, body, _) => boundary::order(n, body, &mut lent, &mut values),
             Call::Build(n, table, _) => boundary::build(n, table, &mut lent, &mut values),
+            Call::Check(n, table, _) => boundary::check(n, &lent[..table.len()], &lent[table.len()..], &mut values),
         };
+        // The compiler would take it that what is only read stays as it was.
+        black_box(&mut lent);
         let got = Outcome { number, values, lent };
         self.cases += 1;
         self.part += 1;
@@ -120,6 +132,10 @@ impl Tally {
         }
     }
 
+    fn checked(&mut self, name: &str, n: usize, table: &[u8], body: &[u8], number: usize, values: &[usize]) {
+        self.calls(name, Call::Check(n, table, body), number, values, None);
+    }
+
     fn end_part(&mut self, what: &str) {
         println!("{what}: {} cases", self.part);
         self.part = 0;
@@ -139,6 +155,7 @@ fn show(name: &str, call: Call, places: usize, wanted: &Outcome, got: &Outcome) 
         Call::Enter(n, records, room) => (format!("enter, n {n}, table of {room} bytes"), records.len(), start(records)),
         Call::Order(n, body, room) => (format!("order, n {n}, room of {room} bytes"), body.len(), start(body)),
         Call::Build(n, table, room) => (format!("build, n {n}, room of {room} bytes"), table.len(), start(table)),
+        Call::Check(n, table, body) => (format!("check, n {n}, body {}", start(body)), table.len(), start(table)),
     };
     println!("  call: {what}, {places} places for values");
     println!("  {length} long: {items}");
@@ -146,7 +163,7 @@ fn show(name: &str, call: Call, places: usize, wanted: &Outcome, got: &Outcome) 
     println!("  got:    number {}, values {:?}", got.number, got.values);
     let places: Vec<usize> = (0..wanted.lent.len()).filter(|&i| wanted.lent[i] != got.lent[i]).collect();
     if let Some(&i) = places.first() {
-        println!("  table or room: {} bytes differ, the first at {i}: wanted {}, got {}", places.len(), wanted.lent[i], got.lent[i]);
+        println!("  table, room or body: {} bytes differ, the first at {i}: wanted {}, got {}", places.len(), wanted.lent[i], got.lent[i]);
     }
 }
 
@@ -284,8 +301,7 @@ fn good_ones(tally: &mut Tally) {
     tally.good("01|2, 02|1 and a fan", &collection(3, &[close.clone(), other, fan]), [3, 3], &[3]);
     // Document 01's run with n = 6: ((0,1),2) and ((0,1),(3,(4,5))).
     let far = vec![255, 255, 0, 255, 1, 0, 1, 1, 0, 255, 4, 3, 4, 255, 6, 4, 6, 5];
-    let table = [1, 1, 0, 0, 1, 0, 0, 4, 4, 0, 1, 0, 0, 4, 4, 0, 4, 4, 0, 4];
-    tally.good("the run with n = 6", &collection(6, &[close, far]), [6, 2], &table);
+    tally.good("the run with n = 6", &collection(6, &[close, far]), [6, 2], &SIX_TABLE);
     tally.end_part("good collections, tables written out");
 }
 
@@ -414,10 +430,10 @@ fn bodies_refused(tally: &mut Tally) {
             }
         }
     }
-    // A body that starts well, up to each bad length; 258 is 2 in one byte, and 65,538 is 2 in two bytes.
+    // A body that starts well, up to each bad length.
     let mut long = nested_house();
     long.resize(65_538, 255);
-    for length in [0, 1, 3, 5, 127, 253, 255, 256, 257, 258, 512, 65_536, 65_538] {
+    for length in BAD_LENGTHS {
         for room in [0, 2, length, 300] {
             tally.calls("a body of a bad length", Call::Order(64, &long[..length], room), 5, &[0], None);
         }
@@ -483,6 +499,25 @@ fn bodies_ordered(tally: &mut Tally) {
     tally.end_part("bodies put in house order, written out");
 }
 
+// n, a table with bytes over 7, and the place of the first one.
+const OVER: [(usize, &[u8], usize); 9] = [
+    (3, &[8], 0),
+    (3, &[9], 0),
+    (3, &[128], 0),
+    (3, &[255], 0),
+    (4, &[8, 0, 0, 0], 0),
+    (4, &[7, 9, 0, 255], 1),
+    (4, &[1, 0, 16, 1], 2),
+    (4, &[3, 0, 0, 8], 3),
+    (5, &[7, 7, 7, 7, 7, 7, 7, 7, 7, 15], 9),
+];
+
+// n, and lengths that its table does not have.
+const BAD_TABLES: [(usize, [usize; 2]); 6] = [(1, [1, 2]), (2, [1, 4]), (3, [0, 2]), (4, [3, 5]), (5, [0, 11]), (64, [41_663, 41_665])];
+
+// A body's bad lengths; 258 is 2 in one byte, and 65,538 is 2 in two bytes.
+const BAD_LENGTHS: [usize; 13] = [0, 1, 3, 5, 127, 253, 255, 256, 257, 258, 512, 65_536, 65_538];
+
 fn tables_refused(tally: &mut Tally) {
     // 43,680 bytes are a table of 65 species. n comes first, then the length, then the bytes, then the room.
     for n in BAD_COUNTS {
@@ -494,7 +529,7 @@ fn tables_refused(tally: &mut Tally) {
             }
         }
     }
-    for (n, lengths) in [(1, [1, 2]), (2, [1, 4]), (3, [0, 2]), (4, [3, 5]), (5, [0, 11]), (64, [41_663, 41_665])] {
+    for (n, lengths) in BAD_TABLES {
         for length in lengths {
             for byte in [0, 3, 255] {
                 for room in [0, 4 * n - 3, 4 * n - 2, 300] {
@@ -505,19 +540,7 @@ fn tables_refused(tally: &mut Tally) {
     }
     let mut last = vec![0; 41_664];
     last[41_663] = 8;
-    let tables: [(usize, &[u8], usize); 10] = [
-        (3, &[8], 0),
-        (3, &[9], 0),
-        (3, &[128], 0),
-        (3, &[255], 0),
-        (4, &[8, 0, 0, 0], 0),
-        (4, &[7, 9, 0, 255], 1),
-        (4, &[1, 0, 16, 1], 2),
-        (4, &[3, 0, 0, 8], 3),
-        (5, &[7, 7, 7, 7, 7, 7, 7, 7, 7, 15], 9),
-        (64, &last, 41_663),
-    ];
-    for (n, table, first) in tables {
+    for (n, table, first) in OVER.into_iter().chain([(64, &last[..], 41_663)]) {
         for room in [0, 4 * n - 3, 4 * n - 2, 300] {
             tally.calls("a byte over 7", Call::Build(n, table, room), 8, &[first], None);
         }
@@ -571,6 +594,9 @@ fn tables_without_a_tree(tally: &mut Tally) {
     tally.end_part("tables that no tree holds");
 }
 
+// The table of document 01's run with n = 6.
+const SIX_TABLE: [u8; 20] = [1, 1, 0, 0, 1, 0, 0, 4, 4, 0, 1, 0, 0, 4, 4, 0, 4, 4, 0, 4];
+
 fn tables_built(tally: &mut Tally) {
     tally.built("n 1", 1, &[], &[255, 0]);
     tally.built("n 2", 2, &[], &[255, 255, 0, 0, 0, 1]);
@@ -587,8 +613,7 @@ fn tables_built(tally: &mut Tally) {
     tally.built("01|3 and 12|3", 4, &[0, 1, 0, 1], &[255, 255, 0, 255, 1, 0, 1, 1, 1, 2, 0, 3]);
     tally.built("((0,1),(2,3))", 4, &[1, 1, 4, 4], &[255, 255, 0, 255, 1, 0, 1, 1, 0, 255, 4, 2, 4, 3]);
     tally.built("04|1 of 5", 5, &[0, 0, 0, 0, 2, 0, 0, 0, 0, 0], &[255, 255, 0, 255, 1, 0, 1, 4, 0, 1, 0, 2, 0, 3]);
-    let table = [1, 1, 0, 0, 1, 0, 0, 4, 4, 0, 1, 0, 0, 4, 4, 0, 4, 4, 0, 4];
-    tally.built("the run with n = 6", 6, &table, &SIX);
+    tally.built("the run with n = 6", 6, &SIX_TABLE, &SIX);
     let mut fan = vec![255, 255];
     fan.extend((0..64).flat_map(|s| [0, s]));
     tally.built("n 64, nothing entered", 64, &[0; 41_664], &fan);
@@ -600,6 +625,262 @@ fn tables_built(tally: &mut Tally) {
     last.extend([0, 255, 62, 61, 62, 62, 0, 63]);
     tally.built("the last triple of 64", 64, &table, &last);
     tally.end_part("tables that a tree holds, bodies written out");
+}
+
+// ((0,1),2), ((0,2),1), (0,(1,2)) and the fan of the three.
+const CLOSE: [u8; 10] = [255, 255, 0, 255, 1, 0, 1, 1, 0, 2];
+const APART: [u8; 10] = [255, 255, 0, 255, 1, 0, 1, 2, 0, 1];
+const HIGH: [u8; 10] = [255, 255, 0, 0, 0, 255, 2, 1, 2, 2];
+const FAN: [u8; 8] = [255, 255, 0, 0, 0, 1, 0, 2];
+
+fn candidates_refused(tally: &mut Tally) {
+    // An empty body, an odd one, a broken one and a good one: n comes first, then the table's length, then its bytes, then the body.
+    let bodies: [&[u8]; 4] = [&[], &[255, 0, 0], &[9, 9], &LADDER];
+    for body in bodies {
+        for n in BAD_COUNTS {
+            for length in [0, 4, 5, 41_664, 43_680] {
+                for byte in [0, 1, 255] {
+                    tally.checked("n 0 or over 64", n, &vec![byte; length], body, 2, &[]);
+                }
+            }
+        }
+        for (n, lengths) in BAD_TABLES {
+            for length in lengths {
+                for byte in [0, 3, 255] {
+                    tally.checked("a table of a wrong length", n, &vec![byte; length], body, 7, &[]);
+                }
+            }
+        }
+        let mut last = vec![0; 41_664];
+        last[41_663] = 8;
+        for (n, table, first) in OVER.into_iter().chain([(64, &last[..], 41_663)]) {
+            tally.checked("a byte over 7", n, table, body, 8, &[first]);
+        }
+    }
+    // Tables that say nothing, one triplet of each triple, and all three.
+    let mut long = nested_house();
+    long.resize(65_538, 255);
+    for byte in [0, 1, 7] {
+        for length in BAD_LENGTHS {
+            tally.checked("a body of a bad length", 64, &[byte; 41_664], &long[..length], 5, &[0]);
+        }
+        tally.checked("an odd length and a bad parent", 4, &[byte; 4], &[9, 9, 9], 5, &[0]);
+        tally.checked("256 bytes of 0", 4, &[byte; 4], &[0; 256], 5, &[0]);
+        for (name, n, body, [node, fault, carried]) in BROKEN {
+            let n = n as usize;
+            tally.checked(name, n, &vec![byte; fitting(n)], body, 6, &[0, node, fault, carried]);
+        }
+    }
+    tally.end_part("candidates and tables to check, refused");
+}
+
+fn candidates_checked(tally: &mut Tally) {
+    // Document 01's runs.
+    tally.checked("01|2, entered 02|1", 3, &[2], &CLOSE, 11, &[0, 2]);
+    tally.checked("01|2, entered 01|2 and 02|1", 3, &[3], &CLOSE, 11, &[0, 3]);
+    tally.checked("01|2, nothing entered", 3, &[0], &CLOSE, 12, &[0]);
+    tally.checked("01|2, entered itself", 3, &[1], &CLOSE, 0, &[]);
+    tally.checked("the fan, entered 01|2 and 02|1", 3, &[3], &FAN, 0, &[]);
+    tally.checked("01|2 and 12|3, the tree built from them", 4, &[1, 0, 0, 1], &LADDER, 0, &[]);
+    tally.checked("the run with n = 6", 6, &SIX_TABLE, &SIX, 12, &[9]);
+    // Each byte against each tree of three species.
+    for byte in 0..8 {
+        for (body, own) in [(CLOSE, 1), (APART, 2), (HIGH, 4)] {
+            let (number, values): (usize, &[usize]) = match byte {
+                0 => (12, &[0]),
+                _ if byte == own => (0, &[]),
+                _ => (11, &[0, byte as usize]),
+            };
+            tally.checked("one triplet, one byte", 3, &[byte], &body, number, values);
+        }
+        tally.checked("the fan, one byte", 3, &[byte], &FAN, 0, &[]);
+        tally.checked("the fan of 3 of 4", 4, &[byte; 4], &FAN, 0, &[]);
+        tally.checked("the star of 4", 4, &[byte; 4], &[255, 255, 0, 0, 0, 1, 0, 2, 0, 3], 0, &[]);
+        tally.checked("a lone leaf of 4", 4, &[byte; 4], &[255, 2], 0, &[]);
+        tally.checked("two leaves of 4", 4, &[byte; 4], &[255, 255, 0, 3, 0, 1], 0, &[]);
+    }
+    tally.checked("the lone leaf", 1, &[], &[255, 0], 0, &[]);
+    tally.checked("the lone leaf 1 of 2", 2, &[], &[255, 1], 0, &[]);
+    tally.checked("(0,1)", 2, &[], &[255, 255, 0, 0, 0, 1], 0, &[]);
+
+    // What is entered of a triple that the candidate does not resolve is not in R.
+    tally.checked("12|3 and 13|2 against 01|2", 4, &[0, 0, 0, 3], &CLOSE, 12, &[0]);
+    tally.checked("01|3, 03|2 and 13|2, which together are 01|2", 4, &[0, 1, 2, 2], &CLOSE, 12, &[0]);
+    tally.checked("01|2, everything elsewhere", 4, &[1, 7, 7, 7], &CLOSE, 0, &[]);
+    tally.checked("(((0,3),1),2) and (((0,1),2),3), the candidate 01|2", 4, &[1, 3, 3, 3], &CLOSE, 0, &[]);
+    let mut all = [7; 20];
+    all[0] = 1;
+    tally.checked("01|2 of 6, everything elsewhere", 6, &all, &CLOSE, 0, &[]);
+    let some = [255, 255, 0, 4, 0, 255, 2, 3, 2, 1];
+    tally.checked("13|4 of 5, entered", 5, &[7, 7, 7, 7, 7, 7, 7, 7, 1, 7], &some, 0, &[]);
+    tally.checked("13|4 of 5, not entered", 5, &[1, 1, 1, 1, 1, 1, 1, 1, 0, 1], &some, 12, &[8]);
+    tally.checked("13|4 of 5, entered 14|3", 5, &[1, 1, 1, 1, 1, 1, 1, 1, 2, 1], &some, 11, &[8, 2]);
+    let wide = [255, 255, 0, 255, 1, 0, 1, 1, 1, 2, 0, 3];
+    tally.checked("((0,1),2,3) and 12|0, the candidate ((0,1,2),3)", 4, &[5, 1, 0, 0], &wide, 12, &[2]);
+
+    // Which triple is named: two short cuts give the right number and another triple.
+    tally.checked("a and b are joined, but c is not kept out", 4, &[1, 0, 0, 0], &LADDER, 12, &[1]);
+    tally.checked("a group is not joined, but two of its species are", 4, &[0, 1, 0, 0], &wide, 12, &[2]);
+
+    // PC comes first, though PI fails at an earlier triple, or though R fits no tree.
+    tally.checked("01|2 is not forced, and 13|2 differs", 4, &[0, 0, 0, 2], &LADDER, 11, &[3, 2]);
+    tally.checked("all but the last agree", 4, &[1, 1, 1, 5], &LADDER, 11, &[3, 5]);
+    tally.checked("everything of 4", 4, &[7; 4], &LADDER, 11, &[0, 7]);
+
+    // The first in index order, by c, then b, then a. The trees are ((((0,1),2),3),4), ((0,4),((1,2),3)) and ((0,3),(1,2),4).
+    let five = [255, 255, 0, 255, 1, 255, 2, 255, 3, 0, 3, 1, 2, 2, 1, 3, 0, 4];
+    tally.checked("(1,2,3) and (0,1,4) differ", 5, &[1, 1, 1, 2, 4, 1, 1, 1, 1, 1], &five, 11, &[3, 2]);
+    tally.checked("(1,2,4) and (0,3,4) differ", 5, &[1, 1, 1, 1, 1, 1, 5, 3, 1, 1], &five, 11, &[6, 5]);
+    let two = [255, 255, 0, 255, 1, 0, 1, 4, 0, 255, 4, 255, 5, 1, 5, 2, 4, 3];
+    tally.checked("(1,2,3) and (0,1,4) are not forced", 5, &[4, 4, 4, 0, 0, 0, 0, 0, 0, 0], &two, 12, &[3]);
+    let three = [255, 255, 0, 255, 1, 0, 1, 3, 0, 255, 4, 1, 4, 2, 0, 4];
+    tally.checked("(1,2,4) and (0,3,4) are not forced", 5, &[4, 2, 2, 1, 0, 0, 0, 0, 0, 0], &three, 12, &[6]);
+
+    // The chain of sets takes several steps. Without 23|4 no two are close against 4, and without 12|3 no two against 3.
+    tally.checked("01|2, 12|3 and 23|4", 5, &[1, 0, 0, 1, 0, 0, 0, 0, 0, 1], &five, 0, &[]);
+    tally.checked("01|2 and 12|3 of 5", 5, &[1, 0, 0, 1, 0, 0, 0, 0, 0, 0], &five, 12, &[4]);
+    tally.checked("01|2 and 23|4", 5, &[1, 0, 0, 0, 0, 0, 0, 0, 0, 1], &five, 12, &[1]);
+
+    // A group is joined beside one sibling and not beside another: ((0,1),2,3) and ((0,1,2),3,4).
+    let beside = [255, 255, 0, 255, 1, 0, 1, 1, 0, 2, 0, 3];
+    tally.checked("01|2, and 01|3 not entered", 4, &[1, 0, 0, 0], &beside, 12, &[1]);
+    tally.checked("01|3, and 01|2 not entered", 4, &[0, 1, 0, 0], &beside, 12, &[0]);
+    tally.checked("01|2 and 01|3", 4, &[1, 1, 0, 0], &beside, 0, &[]);
+    let beside = [255, 255, 0, 255, 1, 0, 1, 1, 1, 2, 0, 3, 0, 4];
+    tally.checked("01|3 and 12|3, and of 4 only 01|4", 5, &[0, 1, 0, 1, 1, 0, 0, 0, 0, 0], &beside, 12, &[5]);
+    tally.checked("01|3 and 12|3, 01|4 and 02|4", 5, &[0, 1, 0, 1, 1, 1, 0, 0, 0, 0], &beside, 0, &[]);
+
+    // Source 000's examples.
+    let pairs = [255, 255, 0, 255, 1, 0, 1, 1, 0, 255, 4, 2, 4, 3, 0, 4];
+    tally.checked("01|4 and 23|4, the candidate ((0,1),(2,3),4)", 5, &[0, 0, 0, 0, 1, 0, 0, 0, 0, 1], &pairs, 12, &[0]);
+    tally.checked("01|3 and 02|3, the candidate ((0,1,2),3)", 4, &[0, 1, 1, 0], &wide, 0, &[]);
+    tally.checked("01|3 and 02|3, more resolved", 4, &[0, 1, 1, 0], &LADDER, 12, &[0]);
+    tally.checked("01|3 and 02|3, resolved by (0,2)", 4, &[0, 1, 1, 0], &[255, 255, 0, 255, 1, 255, 2, 0, 2, 2, 1, 1, 0, 3], 12, &[0]);
+    tally.checked("01|3 and 02|3, resolved by (1,2)", 4, &[0, 1, 1, 0], &[255, 255, 0, 255, 1, 0, 1, 255, 3, 1, 3, 2, 0, 3], 12, &[0]);
+    // (((0,2),1),(4,5)) and (((0,3),1),2).
+    let both = [3, 2, 2, 2, 1, 1, 1, 0, 0, 0, 1, 1, 1, 0, 0, 0, 4, 4, 4, 0];
+    let nest = [255, 255, 0, 255, 1, 255, 2, 255, 3, 0, 3, 3, 2, 1, 1, 2, 0, 255, 8, 4, 8, 5];
+    tally.checked("two trees, the candidate ((((0,3),1),2),(4,5))", 6, &both, &nest, 11, &[0, 3]);
+    let flat = [255, 255, 0, 255, 1, 0, 1, 1, 1, 2, 1, 3, 0, 255, 6, 4, 6, 5];
+    tally.checked("two trees, the candidate ((0,1,2,3),(4,5))", 6, &both, &flat, 12, &[7]);
+    let half = [255, 255, 0, 255, 1, 255, 2, 0, 2, 3, 1, 1, 1, 2, 0, 255, 7, 4, 7, 5];
+    tally.checked("two trees, the candidate (((0,3),1,2),(4,5))", 6, &both, &half, 0, &[]);
+    tally.end_part("candidates checked, answers written out");
+}
+
+fn candidates_of_64(tally: &mut Tally) {
+    let mut star = vec![255, 255];
+    star.extend((0..64).flat_map(|s| [0, s]));
+    let nested = nested_house();
+    for byte in [0, 1, 7] {
+        tally.checked("the star of 64", 64, &[byte; 41_664], &star, 0, &[]);
+        tally.checked("the lone leaf 63 of 64", 64, &[byte; 41_664], &[255, 63], 0, &[]);
+    }
+    let last = [255, 255, 0, 255, 1, 61, 1, 62, 0, 63];
+    for (byte, number, values) in [(0, 12, &[41_663][..]), (1, 0, &[]), (2, 11, &[41_663, 2]), (5, 11, &[41_663, 5])] {
+        let mut table = vec![7; 41_664];
+        table[41_663] = byte;
+        tally.checked("(61,62)|63 alone of 64", 64, &table, &last, number, values);
+    }
+    // On every triple a < b < c the candidate holds ab|c.
+    tally.checked("nothing entered of 64", 64, &[0; 41_664], &nested, 12, &[0]);
+    tally.checked("everything of 64", 64, &[7; 41_664], &nested, 11, &[0, 7]);
+    let mut table = vec![1; 41_664];
+    table[41_663] = 0;
+    tally.checked("all but the last, which the others force", 64, &table, &nested, 0, &[]);
+    table[41_663] = 3;
+    tally.checked("the last differs", 64, &table, &nested, 11, &[41_663, 3]);
+    table[41_663] = 1;
+    table[0] = 0;
+    tally.checked("all but the first, which nothing forces", 64, &table, &nested, 12, &[0]);
+    for candidate in candidates() {
+        tally.checked(candidate.name, 64, &candidate.table, &candidate.body, candidate.number, candidate.values);
+    }
+    // The second one without (38,39)|40: then no two are close against 40, and (0,1,40) has the index C(40,3).
+    let [_, second, ..] = candidates();
+    let mut table = second.table;
+    table[fitting(40) + 39 * 38 / 2 + 38] = 0;
+    tally.checked("nested, each c but 40 with the two before it", 64, &table, &nested, 12, &[9_880]);
+    tally.end_part("candidates of 64 species checked, answers written out");
+}
+
+// All ways to split the species into parts.
+fn splits(species: &[u8]) -> Vec<Vec<Vec<u8>>> {
+    let Some((&last, others)) = species.split_last() else { return vec![vec![]] };
+    let mut all = Vec::new();
+    for split in splits(others) {
+        for k in 0..split.len() {
+            let mut with = split.clone();
+            with[k].push(last);
+            all.push(with);
+        }
+        all.push([split, vec![vec![last]]].concat());
+    }
+    all
+}
+
+// The bodies of all trees of these species.
+fn all_trees(species: &[u8]) -> Vec<Vec<u8>> {
+    if let [only] = *species {
+        return vec![vec![255, only]];
+    }
+    let mut trees = Vec::new();
+    for parts in splits(species).into_iter().filter(|parts| parts.len() > 1) {
+        let mut lists: Vec<Vec<Vec<u8>>> = vec![vec![]];
+        for part in parts {
+            let under = all_trees(&part);
+            lists = lists.iter().flat_map(|list| under.iter().map(|tree| [&list[..], &[tree.clone()]].concat())).collect();
+        }
+        trees.extend(lists.iter().map(|children| joined(children)));
+    }
+    trees
+}
+
+// The bodies of all trees of some of n species, or of all.
+fn all_candidates(n: usize) -> Vec<Vec<u8>> {
+    let subset = |set: usize| (0..n).filter(|s| set >> s & 1 == 1).map(|s| s as u8).collect::<Vec<u8>>();
+    (1..1 << n).flat_map(|set| all_trees(&subset(set))).collect()
+}
+
+// Every candidate of up to 4 species against every table.
+fn small_candidates(tally: &mut Tally) {
+    let mut answers = [0; 13];
+    for (n, count) in [(1, 1), (2, 3), (3, 10), (4, 52)] {
+        let candidates = all_candidates(n);
+        assert_eq!(candidates.len(), count, "the trees of some of {n} species");
+        for code in 0..1 << (3 * fitting(n)) {
+            let table: Vec<u8> = (0..fitting(n)).map(|i| (code >> (3 * i) & 7) as u8).collect();
+            for body in &candidates {
+                let told = plain::check(n, &table, body);
+                answers[told.number] += 1;
+                tally.call("a small candidate", Call::Check(n, &table, body), tally.cases % (MOST_VALUES + 1), &told, None);
+            }
+        }
+    }
+    println!("  checking answered {}", counted(&answers));
+    tally.end_part("every candidate of up to 4 species and every table, against the second implementation");
+}
+
+// Every candidate of 5 species against every part of its own table. Anything else that is entered fails PC or is not in R, so PI meets no other R.
+fn parts_of_own_tables(tally: &mut Tally) {
+    let mut answers = [0; 13];
+    let candidates = all_trees(&[0, 1, 2, 3, 4]);
+    assert_eq!(candidates.len(), 236, "the trees of 5 species");
+    for body in candidates {
+        let own = table_of(5, &[body.clone()]);
+        for code in 0..1 << 10 {
+            // The bit of a triple that the tree does not resolve would give no other table.
+            if (0..10).any(|i| code >> i & 1 == 1 && own[i] == 0) {
+                continue;
+            }
+            let table: Vec<u8> = (0..10).map(|i| if code >> i & 1 == 1 { own[i] } else { 0 }).collect();
+            let told = plain::check(5, &table, &body);
+            answers[told.number] += 1;
+            tally.call("a part of the own table", Call::Check(5, &table, &body), tally.cases % (MOST_VALUES + 1), &told, None);
+        }
+    }
+    println!("  checking answered {}", counted(&answers));
+    tally.end_part("every candidate of 5 species and every part of its own table, against the second implementation");
 }
 
 // A number of species. Most are small.
@@ -786,17 +1067,22 @@ fn random_bodies(tally: &mut Tally) {
     tally.end_part(&format!("{BODIES} random bodies, seed {SEED}, against the second implementation"));
 }
 
+// The table of these trees.
+fn table_of(n: usize, bodies: &[Vec<u8>]) -> Vec<u8> {
+    plain::list(&collection(n as u8, bodies), fitting(n)).1.unwrap()
+}
+
 // The table of some random trees.
 fn listed(n: usize, trees: usize, dice: &mut Dice) -> Vec<u8> {
     let bodies: Vec<Vec<u8>> = (0..trees).map(|_| random_body(n, false, dice)).collect();
-    plain::list(&collection(n as u8, &bodies), fitting(n)).1.unwrap()
+    table_of(n, &bodies)
 }
 
 // The table of one tree, with everything entered of some triples that stand together in it: most meet far down, so sets stop at several depths.
 fn quarrels(n: usize, dice: &mut Dice) -> Vec<u8> {
     let species = shuffled(n as u8, dice);
     let shape = SHAPES[dice.below(3)];
-    let mut table = plain::list(&one(n as u8, &body(shape, &species, dice)), fitting(n)).1.unwrap();
+    let mut table = table_of(n, &[body(shape, &species, dice)]);
     if n > 2 {
         for _ in 0..2 + dice.below(3) {
             let from = dice.below(n - 2);
@@ -892,6 +1178,63 @@ fn random_trees(tally: &mut Tally) {
     tally.end_part(&format!("{TREES} random trees of every species, seed {SEED}: listed, put in house order and built again"));
 }
 
+// A candidate and a table with bytes up to 7, and where the candidate comes from.
+fn random_candidate(n: usize, dice: &mut Dice) -> (Vec<u8>, Vec<u8>, &'static str) {
+    let bodies: Vec<Vec<u8>> = (0..1 + dice.below(3)).map(|_| random_body(n, dice.below(2) == 0, dice)).collect();
+    let (mut table, of_trees) = match dice.below(8) {
+        0..=3 => (table_of(n, &bodies[..1]), true),
+        4..=6 => (table_of(n, &bodies), true),
+        _ => (random_table(n, dice).0, false),
+    };
+    // Some of it, from all to a few, so that much is forced by other triples.
+    let left = [100, 100, 85, 70, 50, 30, 15][dice.below(7)];
+    for byte in &mut table {
+        if dice.below(100) >= left {
+            *byte = 0;
+        }
+    }
+    if dice.below(8) == 0 && !table.is_empty() {
+        let place = dice.below(table.len());
+        table[place] ^= 1 << dice.below(3);
+    }
+    match dice.below(8) {
+        0 => (random_body(n, false, dice), table, "a random candidate"),
+        1..=4 if of_trees => (bodies[0].clone(), table, "the listed tree itself"),
+        _ => match plain::build(n, &table, 4 * n - 2).1 {
+            Some(built) => (built, table, "the tree built"),
+            None => (bodies[0].clone(), table, "a tree, where none is built"),
+        },
+    }
+}
+
+fn random_candidates(tally: &mut Tally) {
+    let mut dice = Dice(SEED);
+    let mut answers = [0; 13];
+    let (mut resolved, mut later) = (0, 0);
+    for _ in 0..CANDIDATES {
+        let mut n = if dice.below(16) == 0 { 1 + dice.below(2) } else { 3 + dice.below(8) };
+        let (mut bytes, mut table, mut kind) = random_candidate(n, &mut dice);
+        let first = table_of(n, &[bytes.clone()]).iter().position(|&byte| byte != 0);
+        match dice.below(16) {
+            0 => kind = damage_table(&mut n, &mut table, &mut dice),
+            1 => kind = damage(&mut bytes, &mut dice),
+            _ => {}
+        }
+        let told = plain::check(n, &table, &bytes);
+        answers[told.number] += 1;
+        if told.number == 0 && first.is_some() {
+            resolved += 1;
+        }
+        if told.number == 12 && Some(told.values[0]) != first {
+            later += 1;
+        }
+        tally.call(kind, Call::Check(n, &table, &bytes), dice.below(MOST_VALUES + 1), &told, None);
+    }
+    println!("  checking answered {}", counted(&answers));
+    println!("  of 0, candidates with a triplet: {resolved}; of 12, not at the candidate's first triplet: {later}");
+    tally.end_part(&format!("{CANDIDATES} random candidates, seed {SEED}, against the second implementation"));
+}
+
 fn main() {
     let mut tally = Tally::default();
     header_and_lengths(&mut tally);
@@ -911,6 +1254,12 @@ fn main() {
     tables_built(&mut tally);
     random_tables(&mut tally);
     random_trees(&mut tally);
+    candidates_refused(&mut tally);
+    candidates_checked(&mut tally);
+    candidates_of_64(&mut tally);
+    small_candidates(&mut tally);
+    parts_of_own_tables(&mut tally);
+    random_candidates(&mut tally);
     println!("tries: {} cases, {} differ", tally.cases, tally.differ);
     if tally.differ > 0 {
         std::process::exit(1);

@@ -30,6 +30,9 @@ enum Answer {
     ShortRoom,
     NoTree(u64),
     Written(usize),
+    Passes,
+    Contradicted { index: usize, byte: u8 },
+    Unforced(usize),
 }
 
 fn bad_count(n: usize) -> bool {
@@ -574,6 +577,226 @@ fn build_answer(n: usize, t: &[u8], out: &mut [u8]) -> Answer {
     }
 }
 
+// ---- the entered triplets on the triples that a tree resolves, and their links on a set
+
+// Takes up xy|z: z goes into the masks of x and y, in both orders.
+fn mark(on: bool, x: usize, y: usize, z: usize, masks: &mut [u64; 4096]) {
+    if on {
+        masks[x * 64 + y] |= 1 << z;
+        masks[y * 64 + x] |= 1 << z;
+    }
+}
+
+// The entered triplets on the triples that the tree resolves, as masks.
+fn relate(t: &[u8], n: usize, whole: u64, meets: &[u64; 4096], masks: &mut [u64; 4096]) {
+    *masks = [0; 4096];
+    let mut c = 0;
+    while c < n {
+        let mut b = 0;
+        while b < c {
+            let mut a = 0;
+            while a < b {
+                match ask(whole, meets, a, b, c) {
+                    Says::Nothing => {}
+                    _ => {
+                        let v = byte(t, a, b, c);
+                        mark(v & 1 != 0, a, b, c, masks);
+                        mark(v & 2 != 0, a, c, b, masks);
+                        mark(v & 4 != 0, b, c, a, masks);
+                    }
+                }
+                a += 1;
+            }
+            b += 1;
+        }
+        c += 1;
+    }
+}
+
+// The species of `fresh` that are linked to i on s.
+fn near_on(masks: &[u64; 4096], s: u64, fresh: u64, i: usize) -> u64 {
+    let mut x = 0;
+    let mut left = fresh;
+    while left != 0 {
+        let j = lowest(left);
+        if masks[i * 64 + j] & s != 0 {
+            x |= 1 << j;
+        }
+        left = rest(left);
+    }
+    x
+}
+
+// What is reached from a over the links on s.
+fn part_on(masks: &[u64; 4096], s: u64, a: usize) -> u64 {
+    let mut x = 1 << a;
+    let mut done = 0;
+    let mut todo = x;
+    while todo != 0 {
+        let i = lowest(todo);
+        x |= near_on(masks, s, s & !x, i);
+        done |= 1 << i;
+        todo = x & !done;
+    }
+    x
+}
+
+// Do the links on g and h together join all of g?
+fn beside(masks: &[u64; 4096], g: u64, h: u64) -> bool {
+    let p = part_on(masks, g | h, lowest(g));
+    g & !p == 0
+}
+
+// ---- checking
+
+// Where a search ended.
+enum Found {
+    Nowhere,
+    At { a: usize, b: usize, c: usize },
+}
+
+// Does an entered bit differ from what the tree says?
+fn against(says: Says, v: u8) -> bool {
+    match says {
+        Says::AB => v & 2 != 0 || v & 4 != 0,
+        Says::AC => v & 1 != 0 || v & 4 != 0,
+        Says::BC => v & 1 != 0 || v & 2 != 0,
+        Says::Nothing => false,
+    }
+}
+
+// The first triple in index order on which an entered bit differs from what the tree says.
+fn first_contradiction(n: usize, t: &[u8], whole: u64, meets: &[u64; 4096]) -> Found {
+    let mut found = Found::Nowhere;
+    'search: for c in 0..n {
+        for b in 0..c {
+            for a in 0..b {
+                if against(ask(whole, meets, a, b, c), byte(t, a, b, c)) {
+                    found = Found::At { a, b, c };
+                    break 'search;
+                }
+            }
+        }
+    }
+    found
+}
+
+// Is the group of node i joined beside every sibling?
+fn beside_all(body: &[u8], groups: &[u64; 127], masks: &[u64; 4096], i: usize) -> bool {
+    let count = node_count(body);
+    let mut j = 1;
+    while j < count {
+        if j != i && parent(body, j) == parent(body, i) && !beside(masks, groups[i], groups[j]) {
+            return false;
+        }
+        j += 1;
+    }
+    true
+}
+
+// Is each group but the root's joined beside every sibling? A leaf's always is.
+fn earned(body: &[u8], groups: &[u64; 127], masks: &[u64; 4096]) -> bool {
+    let count = node_count(body);
+    let mut i = 1;
+    while i < count {
+        if species(body, i) == NONE && !beside_all(body, groups, masks, i) {
+            return false;
+        }
+        i += 1;
+    }
+    true
+}
+
+// The parts of a and of c in s.
+fn pair(masks: &[u64; 4096], s: u64, a: usize, c: usize) -> u64 {
+    s & (part_on(masks, s, a) | part_on(masks, s, c))
+}
+
+// The end of the chain of such pairs that starts at s.
+fn core(masks: &[u64; 4096], s: u64, a: usize, c: usize) -> u64 {
+    let mut x = s;
+    let mut y = pair(masks, x, a, c);
+    while y != x {
+        x = y;
+        y = pair(masks, x, a, c);
+    }
+    x
+}
+
+// The core of a and c in their smallest common group, found once: it has a and c, so that 0 says not yet.
+fn core_of(masks: &[u64; 4096], meets: &[u64; 4096], cores: &mut [u64; 4096], a: usize, c: usize) -> u64 {
+    let known = cores[a * 64 + c];
+    if known != 0 {
+        return known;
+    }
+    let x = core(masks, meets[a * 64 + c], a, c);
+    cores[a * 64 + c] = x;
+    x
+}
+
+// Is what the tree says of a, b and c forced?
+fn sure(whole: u64, meets: &[u64; 4096], masks: &[u64; 4096], cores: &mut [u64; 4096], a: usize, b: usize, c: usize) -> bool {
+    match ask(whole, meets, a, b, c) {
+        Says::AB => has(core_of(masks, meets, cores, a, c), b),
+        Says::AC => has(core_of(masks, meets, cores, a, b), c),
+        Says::BC => has(core_of(masks, meets, cores, a, b), c),
+        Says::Nothing => true,
+    }
+}
+
+// The first triple in index order whose triplet in the tree is not forced.
+fn first_unforced(n: usize, whole: u64, meets: &[u64; 4096], masks: &[u64; 4096]) -> Found {
+    let mut cores = [0; 4096];
+    let mut found = Found::Nowhere;
+    'search: for c in 0..n {
+        for b in 0..c {
+            for a in 0..b {
+                if !sure(whole, meets, masks, &mut cores, a, b, c) {
+                    found = Found::At { a, b, c };
+                    break 'search;
+                }
+            }
+        }
+    }
+    found
+}
+
+fn check_answer(n: usize, t: &[u8], body: &[u8]) -> Answer {
+    if bad_count(n) {
+        return Answer::BadCounts;
+    }
+    if t.len() != room(n) {
+        return Answer::BadTable;
+    }
+    let i = over(t);
+    if i < t.len() {
+        return Answer::BadByte(i);
+    }
+    if bad_length(body.len()) {
+        return Answer::BadLength(0);
+    }
+    if let Some(x) = first_fault(0, n, body) {
+        return Answer::BadTree(x);
+    }
+    let mut groups = [0; 127];
+    let mut meets = [0; 4096];
+    groups_of(body, &mut groups);
+    pairs(body, &groups, &mut meets);
+    let whole = groups[0];
+    if let Found::At { a, b, c } = first_contradiction(n, t, whole, &meets) {
+        return Answer::Contradicted { index: index(a, b, c), byte: byte(t, a, b, c) };
+    }
+    let mut masks = [0; 4096];
+    relate(t, n, whole, &meets, &mut masks);
+    if earned(body, &groups, &masks) {
+        return Answer::Passes;
+    }
+    match first_unforced(n, whole, &meets, &masks) {
+        Found::At { a, b, c } => Answer::Unforced(index(a, b, c)),
+        Found::Nowhere => Answer::Passes,
+    }
+}
+
 // ---- numbers handed back
 
 // Lays `given` into `values` from place 0 on, as far as there is room.
@@ -627,6 +850,15 @@ fn hand_back(answer: Answer, values: &mut [usize]) -> usize {
             lay(values, &[nodes]);
             0
         }
+        Answer::Passes => 0,
+        Answer::Contradicted { index, byte } => {
+            lay(values, &[index, byte as usize]);
+            11
+        }
+        Answer::Unforced(index) => {
+            lay(values, &[index]);
+            12
+        }
     }
 }
 
@@ -644,4 +876,8 @@ pub fn order(n: usize, body: &[u8], out: &mut [u8], values: &mut [usize]) -> usi
 
 pub fn build(n: usize, t: &[u8], out: &mut [u8], values: &mut [usize]) -> usize {
     hand_back(build_answer(n, t, out), values)
+}
+
+pub fn check(n: usize, t: &[u8], body: &[u8], values: &mut [usize]) -> usize {
+    hand_back(check_answer(n, t, body), values)
 }

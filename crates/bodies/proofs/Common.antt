@@ -7,12 +7,12 @@ use mathlib.Core.List.{List·Memᴰ, List·Memᴰ·tail, Memᴰ·append-left, Me
 use Prim.Native.Nat.{ℕ}
 use Rattle.sets.specs.Species.{Species, Inside}
 use Rattle.sets.proofs.Bools.{and-i, and-l, and-r, or-case, or-r, not-i, not-e, test, bool-ext}
-use Rattle.trees.specs.Trees.{Tree, Forest, leaf, node, nil, cons, under, underF, groups, groupsF, Group, wellFormed}
+use Rattle.trees.specs.Trees.{Child, Tree, Forest, leaf, node, nil, cons, under, underF, groups, groupsF, Group, wellFormed}
 use Rattle.trees.specs.Triplets.{holds, cutBy, cuts}
 use Rattle.trees.proofs.Splits.{splits, splitsF, splits-groups, cuts-e, cuts-i, splits-in, root-splits, node-splits, holds-e, holds-i}
 use Rattle.trees.proofs.Groups.{cutBy-i, root-group}
 use Rattle.trees.proofs.Formed.{Formed, FormedF, formed-e}
-use Rattle.trees.proofs.Kids.{Kid, kids, Child, every-child}
+use Rattle.trees.proofs.Kids.{Kid, kids, every-child}
 use Rattle.bodies.specs.Groups.{common}
 
 -- x is in the common group of a and b

@@ -14,3 +14,4 @@ pub mod Housed
 pub mod Houses
 pub mod Stores
 pub mod Written
+pub mod Siblings

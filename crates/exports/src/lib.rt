@@ -9,6 +9,7 @@ ghost use Rattle.entering.specs.Enters.{enterAnswer, enterAfter};
 ghost use Rattle.entering.specs.Order.{enterTold};
 ghost use Rattle.ordering.specs.Orders.{orderAnswer, orderAfter, orderTold};
 ghost use Rattle.building.specs.Builds.{buildAnswer, buildAfter, buildTold};
+ghost use Rattle.checking.specs.Checks.{checkAnswer, checkTold};
 ghost use Rattle.exports.specs.Codes.{faultCode, Handed};
 
 // A fault by two numbers.
@@ -178,6 +179,34 @@ pub extern "C" fn koodhaxil_build(
         building::Answer::NoTree(s) => {
             put(values, 0, s as usize);
             10
+        }
+    }
+}
+
+// Checks the tree of a body against the table t.
+#[no_mangle]
+pub extern "C" fn koodhaxil_check(n: usize, t: &[u8], body: &[u8], values: &mut [usize]) -> usize
+    ensures { λ r. ⌜ Handed (checkTold (checkAnswer n (now (t .entry)) (now (body .entry)))) (now (values .entry)) r (now (values .exit)) ⌝ }
+{
+    let a = checking::check(n, t, body);
+    match a {
+        checking::Answer::Passes => 0,
+        checking::Answer::BadCount => 2,
+        checking::Answer::BadTable => 7,
+        checking::Answer::BadByte(i) => {
+            put(values, 0, i);
+            8
+        }
+        checking::Answer::BadLength => hand(collections::Answer::BadLength(0), values),
+        checking::Answer::BadTree(x) => hand(collections::Answer::BadTree(x), values),
+        checking::Answer::Contradicted(x) => {
+            put(values, 0, x.index);
+            put(values, 1, x.byte as usize);
+            11
+        }
+        checking::Answer::Unforced(i) => {
+            put(values, 0, i);
+            12
         }
     }
 }

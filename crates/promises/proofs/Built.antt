@@ -28,9 +28,9 @@ use Rattle.answers.specs.Answers as Answers
 use Rattle.answers.specs.Answers.{node-count, told}
 use Rattle.building.specs.Builds.{buildAnswer, buildContent, buildTold, concluded, outcome, raised}
 use Rattle.building.specs.declared.Answer.{Answer}
-use Rattle.promises.specs.Candidates.{Given, builds}
+use Rattle.promises.specs.Candidates.{Given, builds, gives}
 use Rattle.promises.specs.Demand2.{Builds, Count, Table, front}
-use Rattle.promises.proofs.Gives.{count-right, gives}
+use Rattle.promises.proofs.Gives.{count-right}
 use Rattle.promises.proofs.Tabled.{byte-right}
 use Rattle.promises.proofs.Wrote.{front-is, wrote}
 
@@ -48,7 +48,7 @@ module _ (n : ℕ) (t o : List ℕ) (c : Count n) (g : Table n t) (room : roomFo
   unfolding buildContent
   builds-tree T e = builds-is (tree T) e ∙ ap (λ (r : Outcome). gives (told 0 (node-count (nodeCount T) ∷ [])) (raised r o)) e
 
-  builds-stop : (U : Species) → outcome n t ≡ stop U → builds n t o ≡ gives (told 10 (Answers.stopping-set (number 64 U) ∷ [])) o
+  pub builds-stop : (U : Species) → outcome n t ≡ stop U → builds n t o ≡ gives (told 10 (Answers.stopping-set (number 64 U) ∷ [])) o
   unfolding buildContent
   builds-stop U e = builds-is (stop U) e
 

@@ -19,9 +19,9 @@ use Rattle.entering.specs.Enters.{among, enterAnswer, enterContent, firstBad, l
 use Rattle.entering.specs.Order.{enterTold}
 use Rattle.entering.specs.declared.Answer.{Answer}
 use Rattle.entering.specs.declared.Answer.the-variants.{Done}
-use Rattle.promises.specs.Candidates.{Given, enters}
+use Rattle.promises.specs.Candidates.{Given, enters, gives}
 use Rattle.promises.specs.Demand2.{Count, Enters, RecordSays, SomeRecordSays, Triplet}
-use Rattle.promises.proofs.Gives.{count-right, gives}
+use Rattle.promises.proofs.Gives.{count-right}
 use Rattle.promises.proofs.Tabled.{Within, table-exact, table-good}
 
 -- one record

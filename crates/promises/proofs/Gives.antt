@@ -1,4 +1,4 @@
--- What a call gives back, in one piece, and what a contract says of it; and a good count of species. Assumes nothing.
+-- What a contract says of what a call gives back; and a good count of species. Assumes nothing.
 use mathlib.Core.Bool.{false}
 use mathlib.Core.List.{List}
 use mathlib.Core.Path.{_≡_, ap, ap₂}
@@ -6,11 +6,8 @@ use Prim.Native.Nat.{ℕ}
 use native.Mathlib.Omega.{arith}
 use borrow.Author.Tests.{le-ltb, ne-eqb}
 use Rattle.answers.specs.Answers.{Exact, Told, wrongCount}
-use Rattle.promises.specs.Candidates.{Given}
+use Rattle.promises.specs.Candidates.{gives}
 use Rattle.promises.specs.Demand2.{Count}
-
-abbrev pub gives : Told → List ℕ → Given
-gives r o = record { told = r; after = o }
 
 pub count-right : (n : ℕ) → Count n → wrongCount n ≡ false
 count-right n c = let z : n ≡ 0 → ⊥ = λ e. omega (arith, c .some) in rw (ne-eqb n 0 z) (le-ltb 64 n (c .most))

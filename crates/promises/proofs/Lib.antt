@@ -10,3 +10,7 @@ pub mod Built
 pub mod Alone
 pub mod Rebuilt
 pub mod Promises
+pub mod Checked
+pub mod Useless
+pub mod Runs
+pub mod Own

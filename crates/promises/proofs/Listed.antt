@@ -23,9 +23,8 @@ use Rattle.collections.specs.Layout.{bodyAt, species, trees}
 use Rattle.listing.specs.Lists.{listAnswer, listContent, listOf, listTold, listed, said}
 use Rattle.listing.specs.declared.Answer.{Answer}
 use Rattle.listing.specs.declared.Answer.the-variants.{Listed}
-use Rattle.promises.specs.Candidates.{Given, lists}
+use Rattle.promises.specs.Candidates.{Given, gives, lists}
 use Rattle.promises.specs.Demand2.{Lists, SomeTreeHolds}
-use Rattle.promises.proofs.Gives.{gives}
 use Rattle.promises.proofs.Tabled.{Within, table-exact, table-good}
 
 -- what the first m trees say is what some of them holds

@@ -16,9 +16,9 @@ use Rattle.answers.specs.Answers.{node-count, told}
 use Rattle.ordering.specs.Orders.{orderAnswer, orderContent, orderTold}
 use Rattle.ordering.specs.declared.Answer.{Answer}
 use Rattle.ordering.specs.declared.Answer.the-variants.{Done}
-use Rattle.promises.specs.Candidates.{Given, orders}
+use Rattle.promises.specs.Candidates.{Given, gives, orders}
 use Rattle.promises.specs.Demand2.{Body, Count, Orders, front}
-use Rattle.promises.proofs.Gives.{count-right, gives}
+use Rattle.promises.proofs.Gives.{count-right}
 use Rattle.promises.proofs.Wrote.{front-is, wrote}
 
 module _ (n : ℕ) (b : List ℕ) (c : Count n) (g : Body n b) where

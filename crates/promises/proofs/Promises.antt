@@ -9,11 +9,13 @@ use Rattle.listing.proofs.Demand1.{list-demand1}
 use Rattle.entering.proofs.Demand1.{enter-demand1}
 use Rattle.ordering.proofs.Demand1.{order-demand1}
 use Rattle.building.proofs.Demand1.{build-demand1}
+use Rattle.checking.proofs.Demand1.{check-demand1}
 use Rattle.collections.specs.declared.Answer as Reading
 use Rattle.listing.specs.declared.Answer as Listing
 use Rattle.entering.specs.declared.Answer as Entering
 use Rattle.ordering.specs.declared.Answer as Ordering
 use Rattle.building.specs.declared.Answer as Building
+use Rattle.checking.specs.declared.Answer as Checking
 use Rattle.collections.specs.Order.{answerTold}
 use Rattle.collections.specs.Reads.{readAnswer}
 use Rattle.listing.specs.Lists.{listAfter, listAnswer, listTold}
@@ -21,13 +23,15 @@ use Rattle.entering.specs.Enters.{enterAfter, enterAnswer}
 use Rattle.entering.specs.Order.{enterTold}
 use Rattle.ordering.specs.Orders.{orderAfter, orderAnswer, orderTold}
 use Rattle.building.specs.Builds.{buildAfter, buildAnswer, buildTold}
-use Rattle.promises.specs.Candidates.{koodhaxil}
+use Rattle.checking.specs.Checks.{checkAnswer, checkTold}
+use Rattle.promises.specs.Candidates.{gives, koodhaxil}
 use Rattle.promises.specs.Demand1.{Demand1}
 use Rattle.promises.specs.Demand2.{Demand2}
 use Rattle.promises.specs.Demand3.{Demand3}
 use Rattle.promises.proofs.Built.{good-built}
+use Rattle.promises.proofs.Checked.{good-checked}
 use Rattle.promises.proofs.Entered.{good-entered}
-use Rattle.promises.proofs.Gives.{exact-gives, gives}
+use Rattle.promises.proofs.Gives.{exact-gives}
 use Rattle.promises.proofs.Kept.{build-kept, enter-kept, list-kept, order-kept}
 use Rattle.promises.proofs.Listed.{good-listed}
 use Rattle.promises.proofs.Ordered.{good-ordered}
@@ -41,16 +45,18 @@ demand1 = record {
   entering = λ n rs t. record { first = enter-demand1 n rs (length t); kept = enter-kept (enterAnswer n rs (length t)) n rs t };
   ordering = λ n b o. record { first = order-demand1 n b (length o); kept = order-kept (orderAnswer n b (length o)) b o };
   building = λ n t o. record { first = build-demand1 n t (length o); kept = build-kept (buildAnswer n t (length o)) n t o };
+  checking = check-demand1;
 }
 
 -- The table has the bits of all trees, or of all records, and no others; house order keeps the groups; the builder gives a tree that holds every triplet
--- entered, and refuses exactly when there is none.
+-- entered, and refuses exactly when there is none; the check passes a tree exactly when nothing contradicts it and each of its triplets is forced.
 pub demand2 : Demand2 koodhaxil
 demand2 = record {
   listing = λ b t w l. good-listed b w t l;
   entering = λ n rs t c l g. good-entered n rs g c t l;
   ordering = λ n b o c g room. good-ordered n b c g o room;
   building = λ n t o c g room. good-built n t o c g room;
+  checking = good-checked;
 }
 
 -- Listing loses nothing.
@@ -79,3 +85,6 @@ order-is n b t r o p = exact-gives orderTold p
 pub build-is : (n : ℕ) (t u : List ℕ) (r : Building.Answer) (o : List ℕ)
     → Exact (buildAnswer n t (length u)) (buildAfter n t u) r o → gives (buildTold r) o ≡ koodhaxil .build n t u
 build-is n t u r o p = exact-gives buildTold p
+
+pub check-is : (n : ℕ) (t b : List ℕ) (r : Checking.Answer) → r ≡ checkAnswer n t b → checkTold r ≡ koodhaxil .check n t b
+check-is n t b r p = ap checkTold p

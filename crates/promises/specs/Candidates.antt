@@ -10,11 +10,15 @@ use Rattle.entering.specs.Enters.{enterAfter, enterAnswer}
 use Rattle.entering.specs.Order.{enterTold}
 use Rattle.ordering.specs.Orders.{orderAfter, orderAnswer, orderTold}
 use Rattle.building.specs.Builds.{buildAfter, buildAnswer, buildTold}
+use Rattle.checking.specs.Checks.{checkAnswer, checkTold}
 
 -- what a call gives back: document 01's number with its values, and what the lent memory holds afterwards
 pub record Given : Type 0 where
   pub told : Told
   pub after : List ℕ
+
+abbrev pub gives : Told → List ℕ → Given
+gives r o = record { told = r; after = o }
 
 -- from a collection
 abbrev pub Reader : Type 0
@@ -36,12 +40,17 @@ Orderer = ℕ → List ℕ → List ℕ → Given
 abbrev pub Builder : Type 0
 Builder = ℕ → List ℕ → List ℕ → Given
 
+-- from n, a table and a body
+abbrev pub Checker : Type 0
+Checker = ℕ → List ℕ → List ℕ → Told
+
 pub record Operations : Type 0 where
   pub read : Reader
   pub list : Lister
   pub enter : Enterer
   pub order : Orderer
   pub build : Builder
+  pub check : Checker
 
 -- ---- ours: by the contract of each public function, what it answers and leaves is this and nothing else (`at-most-one` of `answers`)
 
@@ -60,5 +69,8 @@ orders n b o = record { told = orderTold (orderAnswer n b (length o)); after = o
 abbrev pub builds : Builder
 builds n t o = record { told = buildTold (buildAnswer n t (length o)); after = buildAfter n t o }
 
+abbrev pub checks : Checker
+checks n t b = checkTold (checkAnswer n t b)
+
 abbrev pub koodhaxil : Operations
-koodhaxil = record { read = reads; list = lists; enter = enters; order = orders; build = builds }
+koodhaxil = record { read = reads; list = lists; enter = enters; order = orders; build = builds; check = checks }

@@ -1,5 +1,6 @@
 -- Demand 2, in words over trees: nothing here mentions how a tree is built. "The builder gives [a tree] which holds every triplet entered; it refuses
--- good input exactly when no rooted tree holds them all, naming three or more species whose links inside that set join them all."
+-- good input exactly when no rooted tree holds them all, naming three or more species whose links inside that set join them all. The check passes a
+-- good tree exactly when no entered triplet contradicts it and each of its own triplets is forced by the entered ones on the triples that it resolves."
 use mathlib.Core.Bool.{So, false}
 use mathlib.Core.List.{List, [], _∷_}
 use mathlib.Core.Logic.{_↔_, _≢_, _⊎_}
@@ -8,19 +9,20 @@ use Prim.Native.Nat.{ℕ, _*_, _<_, _≤_}
 use lib.ListN.{drop, getD, length, take}
 use Rattle.sets.specs.Sets.{has, size}
 use Rattle.sets.specs.Species.{Inside, Species, below}
+use Rattle.trees.specs.Check.{Forced, PI, R, differs}
 use Rattle.trees.specs.Held.{CanBeHeld, HeldBy}
 use Rattle.trees.specs.Links.{JoinedByWalks}
-use Rattle.trees.specs.Trees.{SameGroups, inHouseOrder}
-use Rattle.trees.specs.Triplets.{Triplets, holds}
+use Rattle.trees.specs.Trees.{SameGroups, Tree, inHouseOrder}
+use Rattle.trees.specs.Triplets.{Triplets, holds, onTriple}
 use Rattle.tables.specs.Bytes.{entered, top}
-use Rattle.tables.specs.Index.{C}
+use Rattle.tables.specs.Index.{C, index}
 use Rattle.bodies.specs.Draws.{treeOf}
 use Rattle.bodies.specs.Nodes.{Good, badLength, nodes, roomFor, width}
-use Rattle.answers.specs.Answers.{node-count, species-count, stopping-set, told, tree-count}
+use Rattle.answers.specs.Answers.{Told, node-count, species-count, stopping-set, table-byte, told, tree-count, triple-index}
 use Rattle.collections.specs.Collection.{Collection}
 use Rattle.collections.specs.Layout.{bodyAt, species, trees}
 use Rattle.entering.specs.Enters.{left, outer, right}
-use Rattle.promises.specs.Candidates.{Builder, Enterer, Given, Lister, Operations, Orderer}
+use Rattle.promises.specs.Candidates.{Builder, Checker, Enterer, Given, Lister, Operations, Orderer}
 
 -- ---- what is good input
 
@@ -131,8 +133,43 @@ pub record Builds (E : Triplets) (n : ℕ) (S : Species) (o : List ℕ) (g : Giv
 abbrev pub BuildsAll : Builder → Type 0
 BuildsAll f = (n : ℕ) (t o : List ℕ) → Count n → Table n t → roomFor n ≤ length o → Builds (entered t) n (below n) o (f n t o)
 
+-- ---- the check of a tree T, against the entered triplets E, over trees with exactly the species S
+
+-- an entered triplet on the triple differs from what T holds there
+abbrev pub Contradicts : Triplets → Tree → ℕ → ℕ → ℕ → Type 0
+Contradicts E T a b c = So (onTriple (differs E T) a b c)
+
+-- T holds ab|c, and R together with one of the two other triplets can be held by some tree
+abbrev pub Loose : Triplets → Species → Tree → ℕ → ℕ → ℕ → Type 0
+Loose E S T a b c = So (holds T a b c) × (Forced (R E T) S a b c → ⊥)
+
+-- one of the three triplets on the triple is so
+abbrev pub Unforced : Triplets → Species → Tree → ℕ → ℕ → ℕ → Type 0
+Unforced E S T a b c = Loose E S T a b c ⊎ (Loose E S T a c b ⊎ Loose E S T b c a)
+
+-- i is the place of the first triple in index order for which P is so
+pub record FirstTriple (n : ℕ) (P : ℕ → ℕ → ℕ → Type 0) (i : ℕ) : Type 0 where
+  pub low : ℕ
+  pub mid : ℕ
+  pub high : ℕ
+  pub triple : (low < mid) × (mid < high) × (high < n)
+  pub place : i ≡ index low mid high
+  pub here : P low mid high
+  pub before : (a b c : ℕ) → a < b → b < c → c < n → index a b c < i → P a b c → ⊥
+
+pub record Checks (n : ℕ) (t : List ℕ) (S : Species) (T : Tree) (r : Told) : Type 0 where
+  pub settled : (r .number ≡ 0) ⊎ ((r .number ≡ 11) ⊎ (r .number ≡ 12))
+  -- no entered triplet contradicts T, and each triplet of T is forced
+  pub passes : (r .number ≡ 0) ↔ (((a b c : ℕ) → Contradicts (entered t) T a b c → ⊥) × PI (entered t) S T)
+  pub contradicted : r .number ≡ 11 → (i : ℕ) × (r ≡ told 11 (triple-index i ∷ table-byte (getD t i 0) ∷ [])) × FirstTriple n (Contradicts (entered t) T) i
+  pub unforced : r .number ≡ 12 → (i : ℕ) × (r ≡ told 12 (triple-index i ∷ [])) × ((a b c : ℕ) → Contradicts (entered t) T a b c → ⊥) × FirstTriple n (Unforced (entered t) S T) i
+
+abbrev pub ChecksAll : Checker → Type 0
+ChecksAll f = (n : ℕ) (t b : List ℕ) → Count n → Table n t → Body n b → Checks n t (below n) (treeOf b) (f n t b)
+
 pub record Demand2 (L : Operations) : Type 0 where
   pub listing : ListsAll (L .list)
   pub entering : EntersAll (L .enter)
   pub ordering : OrdersAll (L .order)
   pub building : BuildsAll (L .build)
+  pub checking : ChecksAll (L .check)

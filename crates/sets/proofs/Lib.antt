@@ -10,3 +10,4 @@ pub mod Forms
 pub mod Induct
 pub mod Zeros
 pub mod Facts
+pub mod Floods

@@ -3,5 +3,4 @@
 pub mod Stores
 pub mod Walks
 pub mod Linking
-pub mod Flood
 pub mod Coming

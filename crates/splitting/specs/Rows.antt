@@ -49,15 +49,3 @@ InLevel E s c = Some s (λ b. InRow E (meet s (upto b)) b c)
 pub record Grown (R : ℕ → ℕ → Type 0) (g g′ : Rows) : Type 0 where
   pub square : Square g′
   pub flags : (x y : ℕ) → So (flag g′ x y) ↔ (So (flag g x y) ⊎ R x y)
-
--- ---- what is reached
-
--- a set that has, with a species, all that the rows link it to
-abbrev pub Kept : Rows → Species → Type 0
-Kept g X = (i j : ℕ) → So (X i) → j < 64 → So (flag g i j) → So (X j)
-
--- r is the least such set with a
-pub record Flooded (g : Rows) (a r : ℕ) : Type 0 where
-  pub start : So (has r a)
-  pub kept : Kept g (has r)
-  pub least : (X : Species) → Kept g X → So (X a) → (j : ℕ) → So (has r j) → So (X j)

@@ -4,9 +4,10 @@ ghost use Prim.Native.Nat.{_<_};
 ghost use lib.ListN.{length};
 ghost use lib.Seq.{sets};
 ghost use Rattle.sets.specs.Sets.{has, number};
+ghost use Rattle.sets.specs.Floods.{Flooded};
 ghost use Rattle.sets.specs.Species.{Below};
 ghost use Rattle.tables.specs.Bytes.{entered};
-ghost use Rattle.splitting.specs.Rows.{flag, Square, Shows, Pair, Ties, InRow, InLevel, Grown, Flooded};
+ghost use Rattle.splitting.specs.Rows.{flag, Square, Shows, Pair, Ties, InRow, InLevel, Grown};
 ghost use Rattle.splitting.specs.Split.{partsOf};
 
 // Links a and b where it is on.
@@ -87,7 +88,7 @@ fn near(g: &[[bool; 64]; 64], i: usize) -> u64
 // What is reached from a over the links.
 fn part(g: &[[bool; 64]; 64], a: usize) -> u64
     requires { ⌜ a < 64 ⌝ }
-    ensures { λ r. ⌜ Flooded (now (g .entry)) a r ⌝ }
+    ensures { λ r. ⌜ Flooded (flag (now (g .entry))) a r ⌝ }
 {
     let mut reached = sets::single(a);
     let mut done = 0;

@@ -43,7 +43,7 @@ module _ (n : ℕ) (t : List ℕ) (T : Tree) (f : So (wellFormed T)) (sub : Insi
   three : (a b c : ℕ) → So (under T a) × So (under T b) × So (under T c) → (a < n) × (b < n) × (c < n)
   three a b c i = (all-below n a (sub a (i .0)), all-below n b (sub b (i .1)), all-below n c (sub c (i .2)))
 
-  pc-first : PC E (below n) T ↔ (C n 3 ≤ firstDiffers n t T)
+  pub pc-first : PC E (below n) T ↔ (C n 3 ≤ firstDiffers n t T)
   unfolding firstDiffers
   pc-first =
       let P = differs E T in
@@ -53,7 +53,7 @@ module _ (n : ℕ) (t : List ℕ) (T : Tree) (f : So (wellFormed T)) (sub : Insi
         λ l. k .1 (nowhere-e n P (differs-proper E pr T) (λ a b c h. three a b c (differs-in E pr T a b c h)) (first-none n P .0 (omega (arith, first-le n P)))),
       )
 
-  pi-first : PC E (below n) T → PI E (below n) T ↔ (C n 3 ≤ firstUnsure n t T)
+  pub pi-first : PC E (below n) T → PI E (below n) T ↔ (C n 3 ≤ firstUnsure n t T)
   unfolding firstUnsure
   pi-first pc =
       let P = unsure E n T in

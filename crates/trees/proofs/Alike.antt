@@ -10,11 +10,11 @@ use Rattle.trees.proofs.Chain.{Barred, grown-pair, pair-joins, way}
 use Rattle.trees.proofs.Criterion.{no-tree}
 use Rattle.trees.proofs.Formed.{Formed}
 use Rattle.trees.proofs.Parts.{part-least, part-sym, part-trans}
-use Rattle.trees.proofs.Siblings.{Lie, Siblings, between, find, lie, made, siblings-swap}
+use Rattle.trees.proofs.Siblings.{Lie, between, find, lie, made, siblings-swap}
 use Rattle.trees.proofs.Splits.{holds-e, holds-swap}
 use Rattle.trees.specs.Check.{R, pair}
 use Rattle.trees.specs.Links.{Closed, part}
-use Rattle.trees.specs.Trees.{Tree, under}
+use Rattle.trees.specs.Trees.{Siblings, Tree, under}
 use Rattle.trees.specs.Triplets.{Proper, Triplets, holds}
 
 module _ (E : Triplets) (pr : Proper E) (N : ℕ) (T : Tree) (w : Formed T) (bd : Below N (under T)) (ag : Agrees E T) where
@@ -22,11 +22,11 @@ module _ (E : Triplets) (pr : Proper E) (N : ℕ) (T : Tree) (w : Formed T) (bd 
     abbrev S : Species
     S = either (under s) (under s′)
 
-    lies : Lie T s s′
+    pub lies : Lie T s s′
     lies = lie T s s′ w sib
 
     -- no link between siblings
-    closed : Closed (R E T) S (under s′)
+    pub closed : Closed (R E T) S (under s′)
     closed x y z p hx hy hz e = let k = ag x y z e in let o = holds-e T x y z k in or-case (under s y) (under s′ y) hy
         (λ q. absurd (or-case (under s z) (under s′ z) hz
         (λ i. exclusive T w y x z (holds-swap T x y z k) (made T s s′ w sib y z x q i p (o .bc)))

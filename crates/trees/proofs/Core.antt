@@ -23,6 +23,11 @@ use Rattle.trees.specs.Triplets.{Proper, Triplets, holds}
 abbrev pub Core : Triplets → Species → ℕ → ℕ → Species → Type 0
 Core E S a c X = (b : ℕ) → a ≢ b → b ≢ c → So (X b) ↔ (So (S b) × Barred E S a b c)
 
+-- a set that the parts of a and of c leave as it is stays so
+pub core-stays : (E : Triplets) (N : ℕ) (a c : ℕ) (S : Species) → pair E N S a c ≡ S → (k : ℕ) → core E N k S a c ≡ S
+core-stays E N a c S e zero = refl
+core-stays E N a c S e (suc k) = subst (λ (Z : Species). core E N k Z a c ≡ S) (sym e) (core-stays E N a c S e k)
+
 module _ (E : Triplets) (N : ℕ) (pr : Proper E) (a c : ℕ) (ac : a ≢ c) where
   module _ (S : Species) (bd : Below N S) (ha : So (S a)) (hc : So (S c)) where
     pub core-end : Inside S (pair E N S a c) → Core E S a c S
@@ -38,10 +43,6 @@ module _ (E : Triplets) (N : ℕ) (pr : Proper E) (a c : ℕ) (ac : a ≢ c) whe
     pub core-step : CanBeHeld E S → (X : Species) → Core E (pair E N S a c) a c X → Core E S a c X
     core-step held X = core-in held (pair E N S a c) X (pair-in E N pr S bd a c ha hc) (pair-a E N pr S bd a c ha hc) (grown-pair E N pr S bd a c ha hc)
 
-  stable : (S : Species) → pair E N S a c ≡ S → (k : ℕ) → core E N k S a c ≡ S
-  stable S e zero = refl
-  stable S e (suc k) = subst (λ (Z : Species). core E N k Z a c ≡ S) (sym e) (stable S e k)
-
   -- as many steps as species are enough
   pub core-right : (k : ℕ) (S : Species) (bd : Below N S) → So (S a) → So (S c) → CanBeHeld E S → length (members N S) ≤ k → Core E S a c (core E N k S a c)
   core-right zero S bd ha hc held le = absurd (omega (arith, members-one N S a (bd a ha) ha))
@@ -54,7 +55,7 @@ module _ (E : Triplets) (N : ℕ) (pr : Proper E) (a c : ℕ) (ac : a ≢ c) whe
       core-step S bd ha hc held _ (core-right k P (λ x h. bd x (sub x h)) pa (pair-c E N pr S bd a c ha hc) (held-inside E N pr S P bd sub a pa held)
       (omega (arith, members-lt N P S sub (w .0) (w .1) (and-r (S w.0) _ (w .2)) (and-l (S w.0) _ (w .2))))))
       (λ q. let all = inside-e N S P bd q in
-      subst (Core E S a c) (sym (stable S (fun-ext (λ x. bool-ext (P x) (S x) (sub x) (all x))) (suc k))) (core-end S bd ha hc all))
+      subst (Core E S a c) (sym (core-stays E N a c S (fun-ext (λ x. bool-ext (P x) (S x) (sub x) (all x))) (suc k))) (core-end S bd ha hc all))
 
 module _ (E : Triplets) (pr : Proper E) (N : ℕ) (T : Tree) (w : Formed T) (bd : Below N (under T)) (ag : Agrees E T) where
   -- the core of a and c over T's species has b exactly when ac|b is barred

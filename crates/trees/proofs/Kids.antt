@@ -9,7 +9,7 @@ use Rattle.sets.specs.Species.{Inside, Two}
 use Rattle.trees.proofs.Formed.{Formed, FormedF}
 use Rattle.trees.proofs.Lowest.{some-species, some-speciesF}
 use Rattle.trees.proofs.Splits.{splits, splits-in, splitsF, splitsF-in}
-use Rattle.trees.specs.Trees.{Forest, Tree, cons, degree, nil, under, underF}
+use Rattle.trees.specs.Trees.{Child, Forest, Tree, cons, degree, nil, under, underF}
 
 abbrev pub EveryF : (Tree → Type 0) → Forest → Type 0
 EveryF Q nil = Unit {0}
@@ -73,10 +73,6 @@ two-under (cons t f) w le =
     (x .0, y .0, or-l (under t x.0) (underF f x.0) (x .1), or-r (under t y.0) (underF f y.0) (y .1), λ e. w .1 (x .0) (x .1) (subst (λ (z : ℕ). So (underF f z)) (sym e) (y .1)))
 
 -- s is a child of the forest
-abbrev pub Child : Tree → Forest → Type 0
-Child s nil = ⊥
-Child s (cons t f) = (s ≡ t) ⊎ Child s f
-
 pub every-child : (Q : Tree → Type 0) (s : Tree) (f : Forest) → EveryF Q f → Child s f → Q s
 every-child Q s nil h m = absurd m
 every-child Q s (cons t f) h m = ⊎-elim (λ e. subst Q (sym e) (h .0)) (λ k. every-child Q s f (h .1) k) m

@@ -23,3 +23,6 @@ pub mod Core
 pub mod Siblings
 pub mod Alike
 pub mod Triples
+pub mod Earned
+pub mod Flooding
+pub mod Near

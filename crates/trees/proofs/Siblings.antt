@@ -8,15 +8,10 @@ use Rattle.sets.proofs.Bools.{not-e, not-i, or-case, or-l, or-r, test}
 use Rattle.sets.specs.Species.{Inside, Species, either}
 use Rattle.trees.proofs.Chain.{Grown}
 use Rattle.trees.proofs.Formed.{Formed, FormedF}
-use Rattle.trees.proofs.Kids.{Child, Kid, child-of, child-uniq, every-child, kids}
+use Rattle.trees.proofs.Kids.{Kid, child-of, child-uniq, every-child, kids}
 use Rattle.trees.proofs.Splits.{cuts-e, holds-e, holds-i, node-splits, root-splits, splits, splits-in, splitsF}
-use Rattle.trees.specs.Trees.{Forest, Tree, cons, leaf, nil, node, under, underF}
+use Rattle.trees.specs.Trees.{Child, Forest, Siblings, Tree, cons, deep, leaf, nil, node, top, under, underF}
 use Rattle.trees.specs.Triplets.{Triplets, cuts, holds}
-
--- s and s′ are two children of one node of T
-pub data Siblings : Tree → Tree → Tree → Type 0 where
-  top : {f : Forest} {s s′ : Tree} → Child s f → Child s′ f → s ≢ s′ → Siblings (node f) s s′
-  deep : {f : Forest} {k s s′ : Tree} → Child k f → Siblings k s s′ → Siblings (node f) s s′
 
 pub siblings-swap : (T s s′ : Tree) → Siblings T s s′ → Siblings T s′ s
 siblings-swap T s s′ (top p q ne) = top q p (λ e. ne (sym e))

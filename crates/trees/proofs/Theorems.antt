@@ -12,6 +12,7 @@ use Rattle.trees.proofs.Agreement.{Agrees, agrees-pc, pc-agrees}
 use Rattle.trees.proofs.Alike.{alike}
 use Rattle.trees.proofs.Built.{built}
 use Rattle.trees.proofs.Core.{core-bars, sure-forced}
+use Rattle.trees.proofs.Earned.{earned-pi}
 use Rattle.trees.proofs.Criterion.{aho, held-built, no-tree}
 use Rattle.trees.proofs.Formed.{formed-e, formed-i}
 use Rattle.trees.proofs.Groups.{same-holds, same-species}
@@ -23,7 +24,7 @@ use Rattle.trees.proofs.Stopping.{Stopping, stopping}
 use Rattle.trees.proofs.Triplets.{on-swap, on-turn}
 use Rattle.trees.proofs.Unique.{house-same, rebuilt-house, same-groups, same-house}
 use Rattle.trees.specs.Build.{Outcome, build, stop, tree}
-use Rattle.trees.specs.Check.{Forced, PC, PI, R, core, differs, sure, unsure}
+use Rattle.trees.specs.Check.{Earned, Forced, PC, PI, R, core, differs, sure, unsure}
 use Rattle.trees.specs.Held.{CanBeHeld, HeldBy}
 use Rattle.trees.specs.Links.{Joined, JoinedByWalks, joined}
 use Rattle.trees.specs.Trees.{SameGroups, Tree, house, inHouseOrder, under, wellFormed}
@@ -189,3 +190,7 @@ module _ (E : Triplets) (pr : Proper E) (N : ℕ) (S : Species) (bd : Below N S)
       (λ pi a b c h. let o = and-l (holds T a b c) _ h in not-e (sure E N T a b c) (and-r (holds T a b c) _ h) (forced-exactly a b c o .0 (pi a b c o))),
       λ n a b c h. forced-exactly a b c h .1 (test (sure E N T a b c) (λ q. q) (λ q. absurd (n a b c (and-i (holds T a b c) _ h q)))),
     )
+
+    -- PI holds exactly when each group of T but the root's is earned: joined by the links on it and any one sibling group.
+    pub earned-exactly : PI E S T ↔ Earned (R E T) T
+    earned-exactly = earned-pi E pr N T (formed-e T f) tbd agrees S bd sub

@@ -2,10 +2,10 @@
 -- Definition 1 (l.147).
 use mathlib.Core.Bool.{So, not, _&&_}
 use Prim.Native.Nat.{ℕ, zero, suc}
-use Rattle.sets.specs.Species.{Species, either}
-use Rattle.trees.specs.Trees.{Tree, under}
+use Rattle.sets.specs.Species.{Inside, Species, either}
+use Rattle.trees.specs.Trees.{Siblings, Tree, under}
 use Rattle.trees.specs.Triplets.{Triplets, holds, resolves, only, both}
-use Rattle.trees.specs.Links.{part}
+use Rattle.trees.specs.Links.{Closed, part}
 use Rattle.trees.specs.Held.{CanBeHeld}
 
 -- "R is the set of entered triplets on triples that T resolves (where T holds one of the three triplets)."
@@ -46,3 +46,13 @@ sure E N T a b c = core (R E T) N N (under T) a c b && core (R E T) N N (under T
 
 abbrev pub unsure : Triplets → ℕ → Tree → Triplets
 unsure E N T a b c = holds T a b c && not (sure E N T a b c)
+
+-- ---- groups that are earned
+
+-- the links on S join all of A
+abbrev pub Joins : Triplets → Species → Species → Type 0
+Joins E S A = (X : Species) → Closed E S X → (u : ℕ) → So (A u) → So (X u) → Inside A X
+
+-- each group but the root's is joined by the links on it and any one sibling group
+abbrev pub Earned : Triplets → Tree → Type 0
+Earned E T = (s s′ : Tree) → Siblings T s s′ → Joins E (either (under s) (under s′)) (under s)

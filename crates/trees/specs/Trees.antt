@@ -1,7 +1,8 @@
 -- Rooted trees and their groups. Document 01, "A tree's body and the collection"; source 000, l.65.
 use mathlib.Core.Bool.{Bool, true, false, cond, not, _&&_, _||_}
 use mathlib.Core.List.{List, [], _∷_, _++_, List·Memᴰ}
-use mathlib.Core.Logic.{_↔_}
+use mathlib.Core.Logic.{_↔_, _≢_, _⊎_}
+use mathlib.Core.Path.{_≡_}
 use Prim.Native.Nat.{ℕ, suc, min}
 use lib.Dec.{eqb, leb, ltb}
 use Rattle.sets.specs.Species.{Species}
@@ -117,3 +118,13 @@ abbrev mutual
   pub houseF : Forest → Forest
   houseF nil = nil
   houseF (cons t f) = hang (house t) (houseF f)
+
+-- s is a child of the node over f
+abbrev pub Child : Tree → Forest → Type 0
+Child s nil = ⊥
+Child s (cons t f) = (s ≡ t) ⊎ Child s f
+
+-- s and s′ are two children of one node of T
+pub data Siblings : Tree → Tree → Tree → Type 0 where
+  top : {f : Forest} {s s′ : Tree} → Child s f → Child s′ f → s ≢ s′ → Siblings (node f) s s′
+  deep : {f : Forest} {k s s′ : Tree} → Child k f → Siblings k s s′ → Siblings (node f) s s′

@@ -5,12 +5,13 @@ use native.Mathlib.Omega.{arith}
 use borrow.Author.Needs.{needs}
 use Rattle.sets.proofs.Facts.{minus-empty}
 use Rattle.sets.specs.Sets.{minus, size}
-use Rattle.splitting.proofs.Flood.{Spread, spread-end, spread-next, spread-start, todo-in, todo-less}
+use Rattle.sets.proofs.Floods.{Spread, spread-end, spread-next, spread-start, todo-in, todo-less}
+use Rattle.splitting.specs.Rows.{flag}
 use Rattle.splitting.proofs.part.Statement.{statement}
 use Rattle.splitting.proofs.part.Tie as tie
 
 abbrev Inv-loop : tie.InvT-loop
-Inv-loop g a reached₀ done₀ todo₀ reached done todo = Spread g a reached done × (todo ≡ minus reached done)
+Inv-loop g a reached₀ done₀ todo₀ reached done todo = Spread (flag g) a reached done × (todo ≡ minus reached done)
 
 abbrev μ-loop : tie.MeasureT-loop
 μ-loop g a reached₀ done₀ todo₀ reached done todo = 64 - size done
@@ -21,7 +22,7 @@ single-requires c κs = search needs
 loop-holds : tie.Need-loop-holds Inv-loop μ-loop
 loop-holds c =
     let a = c .before .args in
-    (spread-start (a .g .now) (a .a) (c .single .result) (c .single .ensures), sym (minus-empty (c .single .result)))
+    (spread-start (flag (a .g .now)) (a .a) (c .single .result) (c .single .ensures), sym (minus-empty (c .single .result)))
 
 lowest-requires : tie.Need-lowest-requires Inv-loop μ-loop
 lowest-requires c κs = search needs
@@ -56,7 +57,7 @@ loop-again c =
     let i = k .before in
     let l = i .before .loop in
     let a = i .before .before .before .args in (
-      spread-next (a .g .now) (a .a) (l .reached) (l .done) (k .lowest .result) (n .near .result) (u .union .result) (w .with .result)
+      spread-next (flag (a .g .now)) (a .a) (l .reached) (l .done) (k .lowest .result) (n .near .result) (u .union .result) (w .with .result)
           (todo-in (l .reached) (l .done) (l .todo) (k .lowest .result) (l .inv .1) (i .loop-test .taken) (k .lowest .ensures))
           (n .near .ensures) (u .union .ensures) (w .with .ensures) (l .inv .0),
       c .minus .ensures,
@@ -66,7 +67,7 @@ returns : tie.Need-returns Inv-loop μ-loop
 returns c =
     let l = c .before .loop in
     let a = c .before .before .before .args in
-    spread-end (a .g .now) (a .a) (l .reached) (l .done) (sym (l .inv .1) ∙ c .loop-test .left) (l .inv .0)
+    spread-end (flag (a .g .now)) (a .a) (l .reached) (l .done) (sym (l .inv .1) ∙ c .loop-test .left) (l .inv .0)
 
 pub part-spec : {M : Type 1} → statement M
 part-spec =

@@ -1,0 +1,141 @@
+-- Each useless function breaks the demand that document 01 names for it, as the very same record. Assumes nothing.
+use mathlib.Core.Bool.{_||_, false, false≢true, true}
+use mathlib.Core.List.{List, [], _∷_}
+use mathlib.Core.Logic.{⊎-elim}
+use mathlib.Core.Path.{_∙_, _≡_, ap, refl, subst, sym}
+use Prim.Native.Nat.{ℕ, _*_, suc, zero}
+use native.Mathlib.Omega.{arith}
+use borrow.Author.Tests.{eq-eqb, eqb-true, lt-ltb, ltb-true}
+use lib.Dec.{eqb, ltb}
+use lib.ListN.{take}
+use Rattle.sets.proofs.Bools.{bool-ext, ne-e, or-case, or-l, or-r, test}
+use Rattle.sets.specs.Sets.{digit, number}
+use Rattle.sets.specs.Species.{below, members}
+use Rattle.trees.proofs.Groups.{same-species}
+use Rattle.trees.specs.Build.{build, buildIn, tree}
+use Rattle.trees.specs.Held.{CanBeHeld}
+use Rattle.trees.specs.Links.{leads, part, parts}
+use Rattle.trees.specs.Trees.{SameGroups, leaf}
+use Rattle.tables.proofs.Bytes.{entered-empty}
+use Rattle.tables.specs.Bytes.{bitOf, entered, placeOf}
+use Rattle.tables.specs.Filled.{bytesFrom, tableFor}
+use Rattle.tables.specs.Index.{C, highAt, index, largest, lowAt, midAt}
+use Rattle.bodies.proofs.Rules.{no-fault}
+use Rattle.bodies.specs.Draws.{treeAt, treeOf}
+use Rattle.bodies.specs.Faults.{fault, first, seen}
+use Rattle.bodies.specs.Nodes.{children, nodes}
+use Rattle.answers.specs.Answers.{Told, node-count, told}
+use Rattle.collections.proofs.Whole.{good-whole}
+use Rattle.collections.specs.Collection.{Collection}
+use Rattle.collections.specs.Layout.{start}
+use Rattle.collections.specs.Reads.{readAnswer, readFrom}
+use Rattle.listing.specs.Lists.{said}
+use Rattle.building.specs.Builds.{outcome}
+use Rattle.promises.specs.Candidates.{Builder, Given, Operations, builds, checks, enters, lists, orders, reads}
+use Rattle.promises.specs.Demand2.{Body, BuildsAll, Count, ListsAll, Table, front}
+use Rattle.promises.specs.Demand3.{Demand3, Full}
+use Rattle.promises.specs.Useless.{firstAlone, fixed, inventing, refusing, silent}
+use Rattle.promises.proofs.Built.{builds-tree}
+
+-- ---- one species, and its empty table
+
+one : Count 1
+one = record { some = omega arith; most = omega arith }
+
+empty : Table 1 []
+unfolding C
+empty = record { long = refl; small = λ i. omega arith }
+
+-- the lone leaf holds all that is entered
+lone : CanBeHeld (entered []) (below 1)
+lone = (
+  leaf 0,
+  record {
+    species = λ x. bool-ext (eqb 0 x) (ltb x 1) (λ h. let e = eqb-true 0 x h in lt-ltb x 1 (omega arith)) (λ h. let l = ltb-true x 1 h in eq-eqb 0 x (omega arith));
+    formed = refl;
+    keeps = λ a b c ha hb hc h. absurd (false≢true (sym (entered-empty a b c) ∙ h));
+  },
+)
+
+-- "one that refuses always (demand 2, no tree must be absent; also 3)"
+pub refusing-breaks : BuildsAll refusing → ⊥
+refusing-breaks f = f 1 [] (0 ∷ 0 ∷ []) one empty (omega arith) .refuses .0 refl lone
+
+-- "one that writes nothing (demand 2)": bytes of zeros are no body
+zeros : (k : ℕ) → Body 1 (take k (0 ∷ 0 ∷ [])) → ⊥
+zeros zero w = false≢true (sym (w .long))
+zeros (suc zero) w = false≢true (sym (w .long))
+zeros (suc (suc k)) w = let e : _≡_ {A = ℕ} 0 255 = w .good .root (omega arith) in omega arith
+
+pub silent-breaks : BuildsAll silent → ⊥
+silent-breaks f =
+    let r = f 1 [] (0 ∷ 0 ∷ []) one empty (omega arith) in
+    ⊎-elim (λ z. let k = r .keeps z in zeros (2 * k .count) (k .wrote .body)) (λ z. r .refuses .0 z lone) (r .settled)
+
+-- "An invented node count breaks demand 2's body": the lone leaf with a node more is no body
+lone-built : outcome 1 [] ≡ tree (leaf 0)
+unfolding outcome build buildIn members part leads parts entered placeOf bitOf index C digit
+lone-built = refl
+
+two-nodes : Body 1 (255 ∷ 0 ∷ 0 ∷ 0 ∷ []) → ⊥
+unfolding children
+two-nodes w = let e : _≡_ {A = ℕ} 0 255 = w .good .inner 0 (omega arith) (omega arith) in omega arith
+
+count-is : (k m : ℕ) → told 0 (node-count k ∷ []) ≡ told 0 (node-count m ∷ []) → k ≡ m
+count-is k m e = let v : (node-count k ∷ []) ≡ (node-count m ∷ []) = ap (λ (x : Told). x .values) e in cc
+
+pub inventing-breaks : BuildsAll inventing → ⊥
+inventing-breaks f =
+    let o : List ℕ = 0 ∷ 0 ∷ 0 ∷ 0 ∷ [] in
+    let k = f 1 [] o one empty (omega arith) .keeps refl in
+    let e : builds 1 [] o .after ≡ (255 ∷ 0 ∷ 0 ∷ 0 ∷ []) = ap (λ (g : Given). g .after) (builds-tree 1 [] o one empty (omega arith) (leaf 0) lone-built) in
+    two-nodes (subst (λ (b : List ℕ). Body 1 b) (ap (front 2) e) (subst (λ (m : ℕ). Body 1 (front m (builds 1 [] o .after))) (sym (count-is 2 (k .count) (k .told-is))) (k .wrote .body)))
+
+abbrev with-build : Builder → Operations
+with-build f = record { read = reads; list = lists; enter = enters; order = orders; build = f; check = checks }
+
+-- "one that returns a fixed tree (demand 3, groups differ)"
+abbrev pair : List ℕ
+pair = 255 ∷ 255 ∷ 0 ∷ 0 ∷ 0 ∷ 1 ∷ []
+
+two : Count 2
+two = record { some = omega arith; most = omega arith }
+
+pair-full : Full 2 pair
+unfolding fault first seen children treeAt
+pair-full = record {
+  body = record { good = no-fault 0 2 (nodes pair) .0 refl; long = refl };
+  every = λ x. bool-ext (eqb 0 x || (eqb 1 x || false)) (ltb x 2)
+      (λ h. or-case (eqb 0 x) _ h
+      (λ k. let e = eqb-true 0 x k in lt-ltb x 2 (omega arith))
+      (λ k. or-case (eqb 1 x) false k (λ q. let e = eqb-true 1 x q in lt-ltb x 2 (omega arith)) (λ q. absurd (false≢true q))))
+      (λ h. let l = ltb-true x 2 h in test (eqb 0 x) (or-l (eqb 0 x) _)
+      (λ k. let n = ne-e 0 x k in or-r (eqb 0 x) _ (or-l (eqb 1 x) false (eq-eqb 1 x (omega arith)))));
+}
+
+pub fixed-breaks : Demand3 (with-build fixed) → ⊥
+unfolding children treeAt C
+fixed-breaks d =
+    let r = d .rebuilt 2 pair [] (0 ∷ 0 ∷ 0 ∷ 0 ∷ 0 ∷ 0 ∷ []) two pair-full refl (omega arith) in
+    let s : SameGroups (leaf 0) (treeOf pair) = subst (λ (m : ℕ). SameGroups (treeOf (front m (255 ∷ 0 ∷ 0 ∷ 0 ∷ 0 ∷ 0 ∷ []))) (treeOf pair)) (sym (count-is 1 (r .count) (r .told-is))) (r .groups) in
+    false≢true (same-species (leaf 0) (treeOf pair) s 1)
+
+-- the one that refuses always breaks this demand too
+pub refusing-breaks-rebuilding : Demand3 (with-build refusing) → ⊥
+unfolding C
+refusing-breaks-rebuilding d =
+    let r = d .rebuilt 2 pair [] (0 ∷ 0 ∷ 0 ∷ 0 ∷ 0 ∷ 0 ∷ []) two pair-full refl (omega arith) in
+    let e : _≡_ {A = ℕ} 10 0 = ap (λ (x : Told). x .number) (r .told-is) in
+    omega arith
+
+-- "one that lists only the first tree and counts the rest as read (demand 2, the bits of all trees)": a fan, and then ((0,1),2)
+abbrev papers : List ℕ
+papers = 1 ∷ 3 ∷ 2 ∷ 0 ∷ 8 ∷ 255 ∷ 255 ∷ 0 ∷ 0 ∷ 0 ∷ 1 ∷ 0 ∷ 2 ∷ 0 ∷ 10 ∷ 255 ∷ 255 ∷ 0 ∷ 255 ∷ 1 ∷ 0 ∷ 1 ∷ 1 ∷ 0 ∷ 2 ∷ []
+
+papers-good : Collection papers
+unfolding readAnswer readFrom start fault first seen children
+papers-good = good-whole papers (record { n = 3; trees = 2 }) refl .1
+
+pub first-alone-breaks : ListsAll firstAlone → ⊥
+unfolding start children treeAt tableFor bytesFrom said entered placeOf bitOf index C largest highAt midAt lowAt digit
+first-alone-breaks f = false≢true (f papers (0 ∷ []) papers-good refl .bits 0 1 2 .1 (1, omega arith, refl))

@@ -1,0 +1,4 @@
+-- The laws of masks.
+pub mod Growth
+pub mod Triples
+pub mod Links
