@@ -1,39 +1,140 @@
-// Times the library against its twin in one process, and listing 16 trees against listing one. Exit 1 where a limit is not met or an answer differs.
+// Times the library's operations against its twin in one process, and listing 16 trees against listing one, as one table in Markdown. Exit 1 where
+// a limit is not met or an answer differs.
 
 mod boundary;
 mod clock;
 mod shapes;
 mod twin;
 
-use shapes::{body, candidates, collection, shuffled, Candidate, Dice, Shape, SHAPES};
+use shapes::{body, candidates, collection, shuffle, shuffled, triples, Candidate, Dice, Shape, SEED, SHAPES};
 use std::hint::black_box;
 use std::time::Duration;
 
-const SEED: u64 = 20_071;
-const N: u8 = 64;
-const ROOM: usize = 41_664;
-const BODY_ROOM: usize = 254;
+const N: usize = 64;
+const TABLE: usize = 41_664;
+const BODY: usize = 254;
 const TWIN_LIMIT: f64 = 1.3;
 const ORDER_LIMIT: f64 = 1.5;
 const TREES_LIMIT: f64 = 17.0;
 const CHECK_GUIDES: [f64; 4] = [10.0, 20.0, 10.0, 50.0];
-const ROUNDS: usize = 301;
+const ROUNDS: usize = 61;
 const SAMPLE: Duration = Duration::from_micros(1_000);
 
-type Read = fn(&[u8], &mut [usize]) -> usize;
-type List = fn(&[u8], &mut [u8], &mut [usize]) -> usize;
+// The operations of one side, the library or the twin. Putting in house order and building go from n and a body or a table to a body.
+struct Side {
+    read: fn(&[u8], &mut [usize]) -> usize,
+    list: fn(&[u8], &mut [u8], &mut [usize]) -> usize,
+    enter: fn(usize, &[[u8; 3]], &mut [u8], &mut [usize]) -> usize,
+    order: fn(usize, &[u8], &mut [u8], &mut [usize]) -> usize,
+    build: fn(usize, &[u8], &mut [u8], &mut [usize]) -> usize,
+    check: fn(usize, &[u8], &[u8], &mut [usize]) -> usize,
+}
 
-// Putting in house order, or building: from n and a body or a table to a body.
-type Make = fn(usize, &[u8], &mut [u8], &mut [usize]) -> usize;
-type Check = fn(usize, &[u8], &[u8], &mut [usize]) -> usize;
+const LIBRARY: Side = Side {
+    read: boundary::read,
+    list: boundary::list,
+    enter: boundary::enter,
+    order: boundary::order,
+    build: boundary::build,
+    check: boundary::check,
+};
 
+const TWIN: Side = Side { read: twin::read, list: twin::list, enter: twin::enter, order: twin::order, build: twin::build, check: twin::check };
+
+// A tree of 64 species, the table of its triplets, these triplets as records, and the collections of the tree once and 16 times.
 struct Run {
-    shape: Shape,
+    name: &'static str,
     tree: Vec<u8>,
     table: Vec<u8>,
+    records: Vec<[u8; 3]>,
     one: Vec<u8>,
     sixteen: Vec<u8>,
 }
+
+// A record for each triplet of the table. Those of a random tree stand in a random order, the close pair too.
+fn records(shape: Shape, table: &[u8], dice: &mut Dice) -> Vec<[u8; 3]> {
+    let mut records = Vec::new();
+    for ([a, b, c], byte) in triples().zip(table) {
+        for (bit, record) in [(1, [a, b, c]), (2, [a, c, b]), (4, [b, c, a])] {
+            if byte & bit != 0 {
+                records.push(record.map(|s| s as u8));
+            }
+        }
+    }
+    if shape == Shape::Random {
+        shuffle(&mut records, dice);
+        for record in &mut records {
+            shuffle(&mut record[..2], dice);
+        }
+    }
+    records
+}
+
+fn run(shape: Shape) -> Run {
+    let mut dice = Dice(SEED);
+    let (name, species) = match shape {
+        Shape::Nested => ("nested", (0..N as u8).collect()),
+        Shape::Balanced => ("balanced", (0..N as u8).collect()),
+        Shape::Random => ("random", shuffled(N as u8, &mut dice)),
+    };
+    let tree = body(shape, &species, &mut dice);
+    let one = collection(N as u8, &[tree.clone()]);
+    let sixteen = collection(N as u8, &vec![tree.clone(); 16]);
+    let mut table = vec![0; TABLE];
+    twin::list(&one, &mut table, &mut []);
+    let records = records(shape, &table, &mut dice);
+    Run { name, tree, table, records, one, sixteen }
+}
+
+// ---- answers
+
+// The number, the values and what was lent, after a call on values and lent memory that held something else.
+type Told = (usize, [usize; 4], Vec<u8>);
+
+fn told(lent: usize, call: impl FnOnce(&mut [u8], &mut [usize]) -> usize) -> Told {
+    let (mut values, mut lent) = ([77; 4], vec![0xa5; lent]);
+    (call(&mut lent, &mut values), values, lent)
+}
+
+// What one side tells of a run. Every table that is filled has to be the run's own, and the tree built from it the tree in house order.
+fn answers(side: &Side, run: &Run) -> Option<Vec<Told>> {
+    let reads = [&run.one, &run.sixteen].map(|bytes| told(0, |_, values| (side.read)(bytes, values)));
+    let lists = [&run.one, &run.sixteen].map(|bytes| told(TABLE, |table, values| (side.list)(bytes, table, values)));
+    let entered = told(TABLE, |table, values| (side.enter)(N, &run.records, table, values));
+    let ordered = told(BODY, |room, values| (side.order)(N, &run.tree, room, values));
+    let built = told(BODY, |room, values| (side.build)(N, &run.table, room, values));
+    let filled = lists.iter().chain([&entered]).all(|(_, _, table)| *table == run.table);
+    let same = ordered == built;
+    let all: Vec<Told> = reads.into_iter().chain(lists).chain([entered, ordered, built]).collect();
+    (filled && same && all.iter().all(|(number, ..)| *number == 0)).then_some(all)
+}
+
+fn checked(side: &Side, candidate: &Candidate) -> Told {
+    told(0, |_, values| (side.check)(N, &candidate.table, &candidate.body, values))
+}
+
+fn differ(what: &str) -> ! {
+    println!("{what}: the library and the twin do not both give the right answer with the same values and bytes");
+    std::process::exit(1);
+}
+
+fn compare(runs: &[Run], candidates: &[Candidate]) {
+    for run in runs {
+        let wanted = answers(&TWIN, run);
+        if wanted.is_none() || wanted != answers(&LIBRARY, run) {
+            differ(run.name);
+        }
+    }
+    for candidate in candidates {
+        let mut values = [77; 4];
+        values[..candidate.values.len()].copy_from_slice(candidate.values);
+        if [LIBRARY, TWIN].iter().any(|side| checked(side, candidate) != (candidate.number, values, vec![])) {
+            differ(candidate.name);
+        }
+    }
+}
+
+// ---- times
 
 fn median(mut xs: Vec<f64>) -> f64 {
     xs.sort_by(f64::total_cmp);
@@ -41,7 +142,7 @@ fn median(mut xs: Vec<f64>) -> f64 {
 }
 
 // The time of some calls.
-fn timed(work: &mut dyn FnMut(), calls: u32) -> Duration {
+fn timed(work: &mut impl FnMut(), calls: u32) -> Duration {
     let start = clock::now();
     for _ in 0..calls {
         work();
@@ -50,7 +151,7 @@ fn timed(work: &mut dyn FnMut(), calls: u32) -> Duration {
 }
 
 // How many calls take a sample's time, so that the clock does not count.
-fn calls_in_a_sample(work: &mut dyn FnMut()) -> u32 {
+fn calls_in_a_sample(work: &mut impl FnMut()) -> u32 {
     let mut calls = 1;
     while timed(work, calls) < SAMPLE {
         calls *= 2;
@@ -58,172 +159,141 @@ fn calls_in_a_sample(work: &mut dyn FnMut()) -> u32 {
     calls
 }
 
-// Times the two alternately, the first to go changing each round: prints the medians, and says whether the ratio is within the limit.
-fn within(name: &str, limit: f64, one: &mut dyn FnMut(), other: &mut dyn FnMut()) -> bool {
-    compared(name, limit, one, other).0
-}
-
-// The same, with the first one's median in microseconds.
-fn compared(name: &str, limit: f64, one: &mut dyn FnMut(), other: &mut dyn FnMut()) -> (bool, f64) {
-    let (one_calls, other_calls) = (calls_in_a_sample(one), calls_in_a_sample(other));
-    let micros = |work: &mut dyn FnMut(), calls| timed(work, calls).as_secs_f64() * 1e6 / calls as f64;
+// Times the two alternately, the first to go changing each round: the medians of their times in microseconds, and of the rounds' ratios.
+fn compared(mut one: impl FnMut(), mut other: impl FnMut()) -> [f64; 3] {
+    let (one_calls, other_calls) = (calls_in_a_sample(&mut one), calls_in_a_sample(&mut other));
+    let mut one_time = || timed(&mut one, one_calls).as_secs_f64() * 1e6 / one_calls as f64;
+    let mut other_time = || timed(&mut other, other_calls).as_secs_f64() * 1e6 / other_calls as f64;
     let (mut times, mut others, mut ratios) = (Vec::new(), Vec::new(), Vec::new());
     for round in 0..ROUNDS {
         let (x, y);
         if round % 2 == 0 {
-            x = micros(one, one_calls);
-            y = micros(other, other_calls);
+            x = one_time();
+            y = other_time();
         } else {
-            y = micros(other, other_calls);
-            x = micros(one, one_calls);
+            y = other_time();
+            x = one_time();
         }
         times.push(x);
         others.push(y);
         ratios.push(x / y);
     }
-    let (time, ratio) = (median(times), median(ratios));
-    let met = ratio <= limit;
-    let verdict = if met { "met" } else { "NOT MET" };
-    println!("{name:<43} {time:>10.2} us {:>10.2} us   ratio {ratio:>6.3}   limit {limit}: {verdict}", median(others));
-    (met, time)
+    [median(times), median(others), median(ratios)]
 }
 
-fn reading<'a>(read: Read, bytes: &'a [u8]) -> impl FnMut() + 'a {
+// The table, whose rows are printed as they come.
+struct Table {
+    met: bool,
+}
+
+impl Table {
+    fn head() -> Table {
+        println!("| operation | input                                      |  library, us |     twin, us |  ratio | limit | met | guide         |");
+        println!("|---|---|--:|--:|--:|--:|---|---|");
+        Table { met: true }
+    }
+
+    fn row(&mut self, operation: &str, input: &str, library: f64, twin: &str, ratio: f64, limit: f64, guide: &str) {
+        let met = ratio <= limit;
+        self.met &= met;
+        let verdict = if met { "yes" } else { "NO" };
+        println!("| {operation:<9} | {input:<42} | {library:>12.2} | {twin:>12} | {ratio:>6.3} | {limit:>5} | {verdict:<3} | {guide:<13} |");
+    }
+
+    // The library against the twin.
+    fn twins<W: FnMut()>(&mut self, operation: &str, input: &str, limit: f64, work: impl Fn(&Side) -> W) {
+        self.guided(operation, input, limit, work, None);
+    }
+
+    // The same, with the library's time beside a guide in milliseconds, which is no limit.
+    fn guided<W: FnMut()>(&mut self, operation: &str, input: &str, limit: f64, work: impl Fn(&Side) -> W, guide: Option<f64>) {
+        let [library, twin, ratio] = compared(work(&LIBRARY), work(&TWIN));
+        let guide = guide.map(|guide| format!("{guide} ms: {}", if library <= guide * 1e3 { "within" } else { "over" }));
+        self.row(operation, input, library, &format!("{twin:.2}"), ratio, limit, &guide.unwrap_or_default());
+    }
+}
+
+fn reading<'a>(side: &Side, bytes: &'a [u8]) -> impl FnMut() + 'a {
+    let read = side.read;
     let mut values = [0; 4];
     move || {
         black_box(read(black_box(bytes), &mut values));
     }
 }
 
-fn listing<'a>(list: List, bytes: &'a [u8]) -> impl FnMut() + 'a {
-    let mut table = vec![0; ROOM];
+// Filling a table or a room of some bytes.
+fn filling<'a>(lent: usize, call: impl Fn(&mut [u8], &mut [usize]) -> usize + 'a) -> impl FnMut() + 'a {
+    let mut lent = vec![0; lent];
     let mut values = [0; 4];
     move || {
-        black_box(list(black_box(bytes), &mut table, &mut values));
-        black_box(&table);
+        black_box(call(&mut lent, &mut values));
+        black_box(&lent);
     }
 }
 
-fn making<'a>(make: Make, bytes: &'a [u8]) -> impl FnMut() + 'a {
-    let mut room = vec![0; BODY_ROOM];
+fn listing<'a>(side: &Side, bytes: &'a [u8]) -> impl FnMut() + 'a {
+    let list = side.list;
+    filling(TABLE, move |table, values| list(black_box(bytes), table, values))
+}
+
+fn entering<'a>(side: &Side, records: &'a [[u8; 3]]) -> impl FnMut() + 'a {
+    let enter = side.enter;
+    filling(TABLE, move |table, values| enter(N, black_box(records), table, values))
+}
+
+fn ordering<'a>(side: &Side, tree: &'a [u8]) -> impl FnMut() + 'a {
+    let order = side.order;
+    filling(BODY, move |room, values| order(N, black_box(tree), room, values))
+}
+
+fn building<'a>(side: &Side, table: &'a [u8]) -> impl FnMut() + 'a {
+    let build = side.build;
+    filling(BODY, move |room, values| build(N, black_box(table), room, values))
+}
+
+fn checking<'a>(side: &Side, candidate: &'a Candidate) -> impl FnMut() + 'a {
+    let check = side.check;
     let mut values = [0; 4];
     move || {
-        black_box(make(N as usize, black_box(bytes), &mut room, &mut values));
-        black_box(&room);
+        black_box(check(N, black_box(&candidate.table), black_box(&candidate.body), &mut values));
     }
-}
-
-fn checking<'a>(check: Check, candidate: &'a Candidate) -> impl FnMut() + 'a {
-    let mut values = [0; 4];
-    move || {
-        black_box(check(N as usize, black_box(&candidate.table), black_box(&candidate.body), &mut values));
-    }
-}
-
-// What both calls answer, on a table and values that held something else.
-fn answers(read: Read, list: List, bytes: &[u8]) -> (usize, [usize; 4], usize, [usize; 4], Vec<u8>) {
-    let (mut values, mut list_values, mut table) = ([77; 4], [77; 4], vec![0xa5; ROOM]);
-    let number = read(bytes, &mut values);
-    let list_number = list(bytes, &mut table, &mut list_values);
-    (number, values, list_number, list_values, table)
-}
-
-// What is made, in a room and values that held something else.
-fn made(make: Make, bytes: &[u8]) -> (usize, [usize; 4], Vec<u8>) {
-    let (mut values, mut room) = ([77; 4], vec![0xa5; BODY_ROOM]);
-    (make(N as usize, bytes, &mut room, &mut values), values, room)
-}
-
-// What the check answers, on values that held something else.
-fn checked(check: Check, candidate: &Candidate) -> (usize, [usize; 4]) {
-    let mut values = [77; 4];
-    (check(N as usize, &candidate.table, &candidate.body, &mut values), values)
-}
-
-fn run(shape: Shape) -> Run {
-    let mut dice = Dice(SEED);
-    let species = if shape == Shape::Random { shuffled(N, &mut dice) } else { (0..N).collect() };
-    let tree = body(shape, &species, &mut dice);
-    let one = collection(N, &[tree.clone()]);
-    let sixteen = collection(N, &vec![tree.clone(); 16]);
-    let mut table = vec![0; ROOM];
-    twin::list(&one, &mut table, &mut []);
-    Run { shape, tree, table, one, sixteen }
-}
-
-fn differ(shape: Shape) -> ! {
-    println!("{shape:?}: the library and the twin do not both answer 0 with the same values and bytes");
-    std::process::exit(1);
 }
 
 fn main() {
-    let runs: Vec<Run> = SHAPES.iter().map(|&shape| run(shape)).collect();
+    let runs = SHAPES.map(run);
     let candidates = candidates();
-
-    for run in &runs {
-        for bytes in [&run.one, &run.sixteen] {
-            let wanted = answers(twin::read, twin::list, bytes);
-            if wanted.0 != 0 || wanted != answers(boundary::read, boundary::list, bytes) {
-                differ(run.shape);
-            }
-        }
-        let house = made(twin::order, &run.tree);
-        if house.0 != 0 || house != made(boundary::order, &run.tree) {
-            differ(run.shape);
-        }
-        // The tree built from a tree's own table is that tree.
-        if house != made(twin::build, &run.table) || house != made(boundary::build, &run.table) {
-            differ(run.shape);
-        }
-    }
-    for candidate in &candidates {
-        let mut wanted = [77; 4];
-        wanted[..candidate.values.len()].copy_from_slice(candidate.values);
-        for check in [boundary::check, twin::check] {
-            if checked(check, candidate) != (candidate.number, wanted) {
-                println!("{}: the library and the twin do not both answer {} with {:?}", candidate.name, candidate.number, candidate.values);
-                std::process::exit(1);
-            }
-        }
-    }
-    println!("64 species; 16 trees are the same tree 16 times; the table is not cleared before a call, which fills all of it.");
-    println!("A tree is put in house order, and built from the table of its own triplets.");
+    compare(&runs, &candidates);
+    println!("The answers of library and twin are the same. All have 64 species; 16 trees are the same tree 16 times.");
     println!("Medians of {ROUNDS} rounds, the two in turn, in processor time; the ratio is the median of the rounds' ratios.");
-    println!("The answers of library and twin are the same.");
+    println!();
 
-    println!("library against twin:");
-    let mut met = true;
-    for Run { shape, tree, table, one, sixteen } in &runs {
-        for (count, bytes) in [(1, one), (16, sixteen)] {
-            let name = format!("read {count} {shape:?}");
-            met &= within(&name, TWIN_LIMIT, &mut reading(boundary::read, bytes), &mut reading(twin::read, bytes));
-        }
-        let name = format!("list 1 {shape:?}");
-        met &= within(&name, TWIN_LIMIT, &mut listing(boundary::list, one), &mut listing(twin::list, one));
-        let name = format!("order {shape:?}");
-        met &= within(&name, ORDER_LIMIT, &mut making(boundary::order, tree), &mut making(twin::order, tree));
-        let name = format!("build {shape:?}");
-        met &= within(&name, TWIN_LIMIT, &mut making(boundary::build, table), &mut making(twin::build, table));
+    let mut table = Table::head();
+    for run in &runs {
+        table.twins("read", &format!("{}, 1 tree", run.name), TWIN_LIMIT, |side| reading(side, &run.one));
+        table.twins("read", &format!("{}, 16 trees", run.name), TWIN_LIMIT, |side| reading(side, &run.sixteen));
     }
-    let mut times = Vec::new();
-    for candidate in &candidates {
-        let name = format!("check {}", candidate.name);
-        let (check_met, time) = compared(&name, TWIN_LIMIT, &mut checking(boundary::check, candidate), &mut checking(twin::check, candidate));
-        met &= check_met;
-        times.push(time / 1e3);
+    for run in &runs {
+        table.twins("list", &format!("{}, 1 tree", run.name), TWIN_LIMIT, |side| listing(side, &run.one));
     }
-    println!("library, the check's time beside a guide, which is no limit:");
-    for ((candidate, time), guide) in candidates.iter().zip(times).zip(CHECK_GUIDES) {
-        let verdict = if time <= guide { "within" } else { "over" };
-        println!("check {:<37} {time:>10.2} ms   guide {guide} ms: {verdict}", candidate.name);
+    for run in &runs {
+        let [sixteen, _, ratio] = compared(listing(&LIBRARY, &run.sixteen), listing(&LIBRARY, &run.one));
+        table.row("list", &format!("{}, 16 trees; the ratio is to 1 tree", run.name), sixteen, "", ratio, TREES_LIMIT, "");
     }
-    println!("library, 16 trees against one tree:");
-    for Run { shape, one, sixteen, .. } in &runs {
-        let name = format!("list 16 against 1, {shape:?}");
-        met &= within(&name, TREES_LIMIT, &mut listing(boundary::list, sixteen), &mut listing(boundary::list, one));
+    for run in &runs {
+        table.twins("enter", &format!("{}, {} records", run.name, run.records.len()), TWIN_LIMIT, |side| entering(side, &run.records));
     }
-    println!("bench: {}", if met { "every limit is met" } else { "a limit is NOT MET" });
-    if !met {
+    for run in &runs {
+        table.twins("order", run.name, ORDER_LIMIT, |side| ordering(side, &run.tree));
+    }
+    for run in &runs {
+        table.twins("build", &format!("{}, from its own table", run.name), TWIN_LIMIT, |side| building(side, &run.table));
+    }
+    for (candidate, guide) in candidates.iter().zip(CHECK_GUIDES) {
+        table.guided("check", candidate.name, TWIN_LIMIT, |side| checking(side, candidate), Some(guide));
+    }
+    println!();
+    println!("bench: {}", if table.met { "every limit is met" } else { "a limit is NOT MET" });
+    if !table.met {
         std::process::exit(1);
     }
 }

@@ -1,4 +1,5 @@
-// The library's functions. Nothing checks these declarations against the library, so they stand here and nowhere else.
+// The library's functions. Nothing checks these declarations against the library: for Rust they stand here alone, and for C in
+// `include/koodhaxil.h`.
 
 extern "C" {
     fn koodhaxil_read(b: *const u8, b_len: usize, values: *mut usize, values_len: usize) -> usize;
@@ -35,7 +36,6 @@ pub fn list(b: &[u8], t: &mut [u8], values: &mut [usize]) -> usize {
 }
 
 /// Enters records over `n` species into the table `t`: the number and the values as for `read`.
-#[allow(dead_code)] // `tries` calls it, `bench` does not.
 pub fn enter(n: usize, records: &[[u8; 3]], t: &mut [u8], values: &mut [usize]) -> usize {
     // SAFETY: as above; the length of `records` is their number.
     unsafe { koodhaxil_enter(n, records.as_ptr(), records.len(), t.as_mut_ptr(), t.len(), values.as_mut_ptr(), values.len()) }

@@ -1,5 +1,7 @@
 // Collections and candidates to run on. What is random comes from a fixed seed, so every run has the same ones.
 
+pub const SEED: u64 = 20_071;
+
 /// Numbers from a seed (splitmix64).
 pub struct Dice(pub u64);
 
@@ -52,12 +54,17 @@ pub fn body(shape: Shape, species: &[u8], dice: &mut Dice) -> Vec<u8> {
     body
 }
 
+/// Puts the items in a random order.
+pub fn shuffle<T>(items: &mut [T], dice: &mut Dice) {
+    for i in (1..items.len()).rev() {
+        items.swap(i, dice.below(i + 1));
+    }
+}
+
 /// The species 0 to n - 1, in a random order.
 pub fn shuffled(n: u8, dice: &mut Dice) -> Vec<u8> {
     let mut species: Vec<u8> = (0..n).collect();
-    for i in (1..species.len()).rev() {
-        species.swap(i, dice.below(i + 1));
-    }
+    shuffle(&mut species, dice);
     species
 }
 
@@ -92,17 +99,14 @@ pub struct Candidate {
     pub values: &'static [usize],
 }
 
+/// The triples a < b < c of 64 species, in the order of the table.
+pub fn triples() -> impl Iterator<Item = [usize; 3]> {
+    (0..64).flat_map(|c| (0..c).flat_map(move |b| (0..b).map(move |a| [a, b, c])))
+}
+
 // The table of 64 species with these bytes for a < b < c.
 fn table(byte: impl Fn(usize, usize, usize) -> u8) -> Vec<u8> {
-    let mut table = Vec::new();
-    for c in 0..64 {
-        for b in 0..c {
-            for a in 0..b {
-                table.push(byte(a, b, c));
-            }
-        }
-    }
-    table
+    triples().map(|[a, b, c]| byte(a, b, c)).collect()
 }
 
 /// Candidates that take the check long, each by another way.

@@ -7,11 +7,10 @@ mod plain;
 mod shapes;
 
 use plain::Told;
-use shapes::{body, candidates, collection, joined, shuffled, Dice, Shape, SHAPES};
+use shapes::{body, candidates, collection, joined, shuffled, Dice, Shape, SEED, SHAPES};
 use std::fmt::Debug;
 use std::hint::black_box;
 
-const SEED: u64 = 20_071;
 const COLLECTIONS: usize = 100_000;
 const LISTS: usize = 20_000;
 const BODIES: usize = 50_000;
@@ -139,6 +138,28 @@ impl Tally {
     fn end_part(&mut self, what: &str) {
         println!("{what}: {} cases", self.part);
         self.part = 0;
+    }
+}
+
+// How often each number was the answer, and of 6 each fault.
+#[derive(Default)]
+struct Answers {
+    numbers: [usize; 14],
+    faults: [usize; 5],
+}
+
+impl Answers {
+    fn count(&mut self, told: &Told) {
+        self.numbers[told.number] += 1;
+        if told.number == 6 {
+            self.faults[told.values[2]] += 1;
+        }
+    }
+
+    fn show(&self, operation: &str) {
+        let given: Vec<String> = (0..14).filter(|&i| self.numbers[i] > 0).map(|i| format!("{i}: {}", self.numbers[i])).collect();
+        let faults = if self.numbers[6] > 0 { format!("; of 6, faults 1 to 4: {:?}", &self.faults[1..]) } else { String::new() };
+        println!("  {operation} answered {}{faults}", given.join(", "));
     }
 }
 
@@ -844,7 +865,7 @@ fn all_candidates(n: usize) -> Vec<Vec<u8>> {
 
 // Every candidate of up to 4 species against every table.
 fn small_candidates(tally: &mut Tally) {
-    let mut answers = [0; 13];
+    let mut answers = Answers::default();
     for (n, count) in [(1, 1), (2, 3), (3, 10), (4, 52)] {
         let candidates = all_candidates(n);
         assert_eq!(candidates.len(), count, "the trees of some of {n} species");
@@ -852,18 +873,18 @@ fn small_candidates(tally: &mut Tally) {
             let table: Vec<u8> = (0..fitting(n)).map(|i| (code >> (3 * i) & 7) as u8).collect();
             for body in &candidates {
                 let told = plain::check(n, &table, body);
-                answers[told.number] += 1;
+                answers.count(&told);
                 tally.call("a small candidate", Call::Check(n, &table, body), tally.cases % (MOST_VALUES + 1), &told, None);
             }
         }
     }
-    println!("  checking answered {}", counted(&answers));
+    answers.show("checking");
     tally.end_part("every candidate of up to 4 species and every table, against the second implementation");
 }
 
 // Every candidate of 5 species against every part of its own table. Anything else that is entered fails PC or is not in R, so PI meets no other R.
 fn parts_of_own_tables(tally: &mut Tally) {
-    let mut answers = [0; 13];
+    let mut answers = Answers::default();
     let candidates = all_trees(&[0, 1, 2, 3, 4]);
     assert_eq!(candidates.len(), 236, "the trees of 5 species");
     for body in candidates {
@@ -875,11 +896,11 @@ fn parts_of_own_tables(tally: &mut Tally) {
             }
             let table: Vec<u8> = (0..10).map(|i| if code >> i & 1 == 1 { own[i] } else { 0 }).collect();
             let told = plain::check(5, &table, &body);
-            answers[told.number] += 1;
+            answers.count(&told);
             tally.call("a part of the own table", Call::Check(5, &table, &body), tally.cases % (MOST_VALUES + 1), &told, None);
         }
     }
-    println!("  checking answered {}", counted(&answers));
+    answers.show("checking");
     tally.end_part("every candidate of 5 species and every part of its own table, against the second implementation");
 }
 
@@ -918,12 +939,6 @@ fn random_body_room(least: usize, dice: &mut Dice) -> usize {
 
 fn another_n(n: usize, dice: &mut Dice) -> usize {
     [0, 65, 255, n + 256, usize::MAX][dice.below(5)]
-}
-
-// How often each number was the answer.
-fn counted(answers: &[usize]) -> String {
-    let given: Vec<String> = answers.iter().enumerate().filter(|(_, &count)| count > 0).map(|(number, count)| format!("{number}: {count}")).collect();
-    given.join(", ")
 }
 
 // A good body, of every species or of some.
@@ -972,8 +987,7 @@ fn damage(bytes: &mut Vec<u8>, dice: &mut Dice) -> &'static str {
 
 fn random_ones(tally: &mut Tally) {
     let mut dice = Dice(SEED);
-    let mut answers = [0; 8];
-    let mut faults = [0; 5];
+    let mut answers = Answers::default();
     for _ in 0..COLLECTIONS {
         let mut bytes = random_collection(&mut dice);
         let kind = if dice.below(3) == 0 { "good" } else { damage(&mut bytes, &mut dice) };
@@ -982,13 +996,10 @@ fn random_ones(tally: &mut Tally) {
         // The second byte is n, whether the collection can be read or not.
         let room = random_room(bytes.get(1).map_or(0, |&n| n as usize), &mut dice);
         let (told, table) = plain::list(&bytes, room);
-        answers[told.number] += 1;
-        if told.number == 6 {
-            faults[told.values[2]] += 1;
-        }
+        answers.count(&told);
         tally.call(kind, Call::List(&bytes, room), dice.below(MOST_VALUES + 1), &told, table.as_deref());
     }
-    println!("  listing answered {}; of 6, faults 1 to 4: {:?}", counted(&answers), &faults[1..]);
+    answers.show("listing");
     tally.end_part(&format!("{COLLECTIONS} random collections, seed {SEED}, against the second implementation"));
 }
 
@@ -1026,24 +1037,23 @@ fn damage_list(n: &mut usize, records: &mut Vec<[u8; 3]>, dice: &mut Dice) -> &'
 
 fn random_lists(tally: &mut Tally) {
     let mut dice = Dice(SEED);
-    let mut answers = [0; 14];
+    let mut answers = Answers::default();
     for _ in 0..LISTS {
         let mut n = random_n(&mut dice);
         let mut records = random_list(n, &mut dice);
         let kind = if dice.below(3) == 0 { "good" } else { damage_list(&mut n, &mut records, &mut dice) };
         let room = random_room(n, &mut dice);
         let (told, table) = plain::enter(n, &records, room);
-        answers[told.number] += 1;
+        answers.count(&told);
         tally.call(kind, Call::Enter(n, &records, room), dice.below(MOST_VALUES + 1), &told, table.as_deref());
     }
-    println!("  entering answered {}", counted(&answers));
+    answers.show("entering");
     tally.end_part(&format!("{LISTS} random lists of records, seed {SEED}, against the second implementation"));
 }
 
 fn random_bodies(tally: &mut Tally) {
     let mut dice = Dice(SEED);
-    let mut answers = [0; 10];
-    let mut faults = [0; 5];
+    let mut answers = Answers::default();
     for _ in 0..BODIES {
         let mut n = random_n(&mut dice);
         let mut bytes = random_body(n, false, &mut dice);
@@ -1057,13 +1067,10 @@ fn random_bodies(tally: &mut Tally) {
         };
         let room = random_body_room(bytes.len().max(2), &mut dice);
         let (told, house) = plain::order(n, &bytes, room);
-        answers[told.number] += 1;
-        if told.number == 6 {
-            faults[told.values[2]] += 1;
-        }
+        answers.count(&told);
         tally.call(kind, Call::Order(n, &bytes, room), dice.below(MOST_VALUES + 1), &told, house.as_deref());
     }
-    println!("  house order answered {}; of 6, faults 1 to 4: {:?}", counted(&answers), &faults[1..]);
+    answers.show("house order");
     tally.end_part(&format!("{BODIES} random bodies, seed {SEED}, against the second implementation"));
 }
 
@@ -1138,7 +1145,7 @@ fn damage_table(n: &mut usize, table: &mut Vec<u8>, dice: &mut Dice) -> &'static
 
 fn random_tables(tally: &mut Tally) {
     let mut dice = Dice(SEED);
-    let mut answers = [0; 11];
+    let mut answers = Answers::default();
     let mut below_all = 0;
     for _ in 0..TABLES {
         let mut n = random_n(&mut dice);
@@ -1149,13 +1156,14 @@ fn random_tables(tally: &mut Tally) {
         }
         let room = random_body_room(least, &mut dice);
         let (told, body) = plain::build(n, &table, room);
-        answers[told.number] += 1;
+        answers.count(&told);
         if told.number == 10 && told.values[0].count_ones() < n as u32 {
             below_all += 1;
         }
         tally.call(kind, Call::Build(n, &table, room), dice.below(MOST_VALUES + 1), &told, body.as_deref());
     }
-    println!("  building answered {}; of 10, sets without some species: {below_all}", counted(&answers));
+    answers.show("building");
+    println!("  of 10, sets without some species: {below_all}");
     tally.end_part(&format!("{TABLES} random tables, seed {SEED}, against the second implementation"));
 }
 
@@ -1209,7 +1217,7 @@ fn random_candidate(n: usize, dice: &mut Dice) -> (Vec<u8>, Vec<u8>, &'static st
 
 fn random_candidates(tally: &mut Tally) {
     let mut dice = Dice(SEED);
-    let mut answers = [0; 13];
+    let mut answers = Answers::default();
     let (mut resolved, mut later) = (0, 0);
     for _ in 0..CANDIDATES {
         let mut n = if dice.below(16) == 0 { 1 + dice.below(2) } else { 3 + dice.below(8) };
@@ -1221,7 +1229,7 @@ fn random_candidates(tally: &mut Tally) {
             _ => {}
         }
         let told = plain::check(n, &table, &bytes);
-        answers[told.number] += 1;
+        answers.count(&told);
         if told.number == 0 && first.is_some() {
             resolved += 1;
         }
@@ -1230,7 +1238,7 @@ fn random_candidates(tally: &mut Tally) {
         }
         tally.call(kind, Call::Check(n, &table, &bytes), dice.below(MOST_VALUES + 1), &told, None);
     }
-    println!("  checking answered {}", counted(&answers));
+    answers.show("checking");
     println!("  of 0, candidates with a triplet: {resolved}; of 12, not at the candidate's first triplet: {later}");
     tally.end_part(&format!("{CANDIDATES} random candidates, seed {SEED}, against the second implementation"));
 }

@@ -19,6 +19,7 @@ struct Broken {
 
 enum Answer {
     Good { n: usize, trees: usize },
+    Entered(usize),
     BadVersion,
     BadCounts,
     EndsEarly(usize),
@@ -33,6 +34,7 @@ enum Answer {
     Passes,
     Contradicted { index: usize, byte: u8 },
     Unforced(usize),
+    BadRecord(usize),
 }
 
 fn bad_count(n: usize) -> bool {
@@ -323,6 +325,29 @@ fn over(t: &[u8]) -> usize {
     i
 }
 
+// Why this is no table for n species.
+fn table_refusal(n: usize, t: &[u8]) -> Option<Answer> {
+    if bad_count(n) {
+        return Some(Answer::BadCounts);
+    }
+    if t.len() != room(n) {
+        return Some(Answer::BadTable);
+    }
+    let i = over(t);
+    if i < t.len() {
+        return Some(Answer::BadByte(i));
+    }
+    None
+}
+
+fn clear(t: &mut [u8]) {
+    let mut i = 0;
+    while i < t.len() {
+        t[i] = 0;
+        i += 1;
+    }
+}
+
 // Adds a bit to the byte of the triple a < b < c: 1 for ab|c, 2 for ac|b, 4 for bc|a.
 fn add_bit(t: &mut [u8], a: usize, b: usize, c: usize, bit: u8) {
     t[index(a, b, c)] |= bit;
@@ -353,11 +378,7 @@ fn enter_tree(n: usize, body: &[u8], groups: &mut [u64; 127], meets: &mut [u64; 
 }
 
 fn fill(b: &[u8], n: usize, trees: usize, t: &mut [u8]) {
-    let mut i = 0;
-    while i < t.len() {
-        t[i] = 0;
-        i += 1;
-    }
+    clear(t);
     let mut groups = [0; 127];
     let mut meets = [0; 4096];
     let mut k = 0;
@@ -376,6 +397,66 @@ fn list_answer(b: &[u8], t: &mut [u8]) -> Answer {
         fill(b, n, trees, t);
     }
     answer
+}
+
+// ---- entering
+
+// Do three numbers repeat a species, or have one not below n?
+fn bad(n: usize, a: usize, b: usize, c: usize) -> bool {
+    if a == b || a == c || b == c {
+        return true;
+    }
+    a >= n || b >= n || c >= n
+}
+
+// The first bad record; the length where there is none.
+fn first_bad(n: usize, records: &[[u8; 3]]) -> usize {
+    let mut i = 0;
+    while i < records.len() {
+        let [a, b, c] = records[i].map(usize::from);
+        if bad(n, a, b, c) {
+            return i;
+        }
+        i += 1;
+    }
+    i
+}
+
+// Enters ab|c; the three species stand in any order.
+fn put_triplet(t: &mut [u8], a: usize, b: usize, c: usize) {
+    let low = a.min(b.min(c));
+    let high = a.max(b.max(c));
+    let mid = a + b + c - (low + high);
+    let bit = if a.max(b) < c {
+        1
+    } else if a.min(b) < c {
+        2
+    } else {
+        4
+    };
+    add_bit(t, low, mid, high, bit);
+}
+
+// The first pass only reads, and the second one fills.
+fn enter_answer(n: usize, records: &[[u8; 3]], t: &mut [u8]) -> Answer {
+    let k = first_bad(n, records);
+    if bad_count(n) {
+        return Answer::BadCounts;
+    }
+    if t.len() != room(n) {
+        return Answer::BadTable;
+    }
+    if k < records.len() {
+        return Answer::BadRecord(k);
+    }
+    clear(t);
+    let mut i = 0;
+    while i < records.len() {
+        let [a, b, c] = records[i].map(usize::from);
+        put_triplet(t, a, b, c);
+        i += 1;
+    }
+    Answer::Entered(n)
 }
 
 // ---- house order
@@ -553,15 +634,8 @@ fn all(n: usize) -> u64 {
 }
 
 fn build_answer(n: usize, t: &[u8], out: &mut [u8]) -> Answer {
-    if bad_count(n) {
-        return Answer::BadCounts;
-    }
-    if t.len() != room(n) {
-        return Answer::BadTable;
-    }
-    let i = over(t);
-    if i < t.len() {
-        return Answer::BadByte(i);
+    if let Some(refusal) = table_refusal(n, t) {
+        return refusal;
     }
     if out.len() < body_room(n) {
         return Answer::ShortRoom;
@@ -762,15 +836,8 @@ fn first_unforced(n: usize, whole: u64, meets: &[u64; 4096], masks: &[u64; 4096]
 }
 
 fn check_answer(n: usize, t: &[u8], body: &[u8]) -> Answer {
-    if bad_count(n) {
-        return Answer::BadCounts;
-    }
-    if t.len() != room(n) {
-        return Answer::BadTable;
-    }
-    let i = over(t);
-    if i < t.len() {
-        return Answer::BadByte(i);
+    if let Some(refusal) = table_refusal(n, t) {
+        return refusal;
     }
     if bad_length(body.len()) {
         return Answer::BadLength(0);
@@ -810,6 +877,10 @@ fn hand_back(answer: Answer, values: &mut [usize]) -> usize {
     match answer {
         Answer::Good { n, trees } => {
             lay(values, &[n, trees]);
+            0
+        }
+        Answer::Entered(n) => {
+            lay(values, &[n]);
             0
         }
         Answer::BadVersion => 1,
@@ -859,6 +930,10 @@ fn hand_back(answer: Answer, values: &mut [usize]) -> usize {
             lay(values, &[index]);
             12
         }
+        Answer::BadRecord(i) => {
+            lay(values, &[i]);
+            13
+        }
     }
 }
 
@@ -868,6 +943,10 @@ pub fn read(b: &[u8], values: &mut [usize]) -> usize {
 
 pub fn list(b: &[u8], t: &mut [u8], values: &mut [usize]) -> usize {
     hand_back(list_answer(b, t), values)
+}
+
+pub fn enter(n: usize, records: &[[u8; 3]], t: &mut [u8], values: &mut [usize]) -> usize {
+    hand_back(enter_answer(n, records, t), values)
 }
 
 pub fn order(n: usize, body: &[u8], out: &mut [u8], values: &mut [usize]) -> usize {

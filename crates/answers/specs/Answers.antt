@@ -4,6 +4,8 @@ use mathlib.Core.Bool.{Bool, cond, true, false, _||_}
 use mathlib.Core.List.{List, [], _∷_}
 use Prim.Native.Nat.{ℕ}
 use lib.Dec.{eqb, ltb}
+use Rattle.bodies.specs.Faults.{fault}
+use Rattle.bodies.specs.Nodes.{nodes}
 use Rattle.bodies.specs.declared.Broken.{Broken}
 use Rattle.bodies.specs.declared.Fault.{Fault}
 use Rattle.bodies.specs.declared.Verdict.{Verdict}
@@ -62,6 +64,15 @@ brokenValues x = tree-number (x .tree) ∷ node-number (x .node) ∷ rule-broken
 abbrev pub faultValues : Verdict → List Value
 faultValues Fine = []
 faultValues (Breaks x) = brokenValues x
+
+-- the rule that the body b breaks, if any: "The tree number is 0 where there is only one body"
+abbrev pub judged : ℕ → List ℕ → Verdict
+judged n b = fault 0 (nodes b) n
+
+-- nodes that break no rule get the answer a
+abbrev pub unlessBroken : {A : Type 0} → (Broken → A) → Verdict → A → A
+unlessBroken f Fine a = a
+unlessBroken f (Breaks x) a = f x
 
 -- A contract of our form: the answer is the defined answer, and what is lent holds the defined content.
 pub record Exact {A B : Type 0} (answer : A) (content : B) (r : A) (o : B) : Type 0 where

@@ -3,7 +3,7 @@ use mathlib.Core.List.{List, [], _∷_, _++_}
 use Prim.Native.Nat.{ℕ, zero, suc, _+_}
 use lib.Seq.{sets}
 use Rattle.trees.specs.Trees.{Tree, Forest, leaf, node, nil, cons, house}
-use Rattle.bodies.specs.Nodes.{Nodes, nodes, children}
+use Rattle.bodies.specs.Nodes.{Nodes, nodes, children, none}
 
 -- the trees at some nodes, side by side
 abbrev pub forestOf : (ℕ → Tree) → List ℕ → Forest
@@ -42,7 +42,7 @@ abbrev mutual
 abbrev mutual
   pub bytes : Tree → ℕ → ℕ → List ℕ
   bytes (leaf x) p at = p ∷ x ∷ []
-  bytes (node f) p at = p ∷ 255 ∷ bytesF f at (suc at)
+  bytes (node f) p at = p ∷ none ∷ bytesF f at (suc at)
 
   pub bytesF : Forest → ℕ → ℕ → List ℕ
   bytesF nil p at = []
@@ -50,7 +50,7 @@ abbrev mutual
 
 -- the body of a tree
 abbrev pub bodyOf : Tree → List ℕ
-bodyOf t = bytes t 255 0
+bodyOf t = bytes t none 0
 
 -- the house-order body of a body
 abbrev pub ordered : List ℕ → List ℕ

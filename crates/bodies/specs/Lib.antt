@@ -1,5 +1,4 @@
--- A tree's body: its nodes, the tree rules and their faults, the tree that it draws, its groups, and asking: definitions only.
+-- A tree's body: its nodes, the tree rules and their faults, and the tree that it draws: definitions only.
 pub mod Nodes
 pub mod Faults
 pub mod Draws
-pub mod Groups

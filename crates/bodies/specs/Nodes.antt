@@ -28,9 +28,17 @@ nodes b = nodesOf width b
 abbrev pub mostNodes : ℕ
 mostNodes = 127
 
+-- the longest body: 254 bytes
+abbrev pub longest : ℕ
+longest = width * mostNodes
+
 -- "A body has 2 to 254 bytes, always an even number"; "body length 0, odd or over 254"
 abbrev pub badLength : ℕ → Bool
-badLength l = eqb l 0 || (not (eqb (l % width) 0) || ltb (width * mostNodes) l)
+badLength l = eqb l 0 || (not (eqb (l % width) 0) || ltb longest l)
+
+-- the root's parent, and the species of a node with children
+abbrev pub none : ℕ
+none = 255
 
 -- the room that the body of any tree of s species fits into: 4s - 2 bytes
 abbrev pub roomFor : ℕ → ℕ

@@ -1,18 +1,12 @@
-// The bytes of a tree's body: its rules and their faults, its groups, and what its tree says of three species.
+// The bytes of a tree's body: its nodes, the tree rules and their faults, and writing nodes.
 ghost use mathlib.Core.Path.{_≡_};
-ghost use mathlib.Core.Bool.{So, cond, not, _&&_};
 ghost use mathlib.Core.List.{[], _∷_};
-ghost use Prim.Native.Nat.{ℕ, suc, _*_, _<_, _≤_, _/_};
-ghost use lib.Dec.{eqb, ltb};
-ghost use lib.ListN.{length, replicate, take};
+ghost use Prim.Native.Nat.{suc, _*_, _<_, _≤_, _/_};
+ghost use lib.ListN.{length, take};
 ghost use lib.Seq.{sets};
-ghost use Rattle.sets.specs.Sets.{has, single};
-ghost use Rattle.trees.specs.Trees.{Tree};
-ghost use Rattle.trees.specs.Triplets.{different};
-ghost use Rattle.bodies.specs.Nodes.{nodes, width, Good, badLength, roomFor, children};
+ghost use Rattle.bodies.specs.Nodes.{nodes, width, badLength, roomFor, children};
 ghost use Rattle.bodies.specs.Faults.{rightParent, seen, parentFault, nodeFault, fault};
-ghost use Rattle.bodies.specs.Draws.{treeOf, written};
-ghost use Rattle.bodies.specs.Groups.{setOf, Groups, entry, Meets, says};
+ghost use Rattle.bodies.specs.Draws.{written};
 
 // The bytes of a node: its parent, then its species.
 const WIDTH: usize = 2;
@@ -43,16 +37,8 @@ pub enum Verdict {
     Breaks(Broken),
 }
 
-// What a tree says of three species a, b and c: ab|c, ac|b, bc|a, or none of them.
-pub enum Says {
-    AB,
-    AC,
-    BC,
-    Nothing,
-}
-
 // A byte as a number.
-fn wide(x: u8) -> usize
+pub fn wide(x: u8) -> usize
     ensures { λ r. ⌜ r ≡ x ⌝ }
 {
     x as usize
@@ -212,127 +198,6 @@ pub fn first_fault(k: usize, n: usize, body: &[u8]) -> Verdict
         j += 1;
     }
     Verdict::Fine
-}
-
-// No group yet.
-fn clear(out: &mut [u64; 127])
-    ensures { λ _. ⌜ now (out .exit) ≡ replicate 127 0 ⌝ }
-{
-    *out = [0; 127];
-}
-
-// The group of a node: a leaf's species, or what an inner node's children gave.
-fn own(s: usize, given: u64) -> u64
-    ensures { λ r. ⌜ r ≡ cond (ltb s 64) (single s) given ⌝ }
-{
-    if s < 64 {
-        return sets::single(s);
-    }
-    given
-}
-
-// The group of every node of a good body: each node, from the last on, gives its group to its parent.
-pub fn groups(body: &[u8], out: &mut [u64; 127])
-    requires { ⌜ Good 64 (nodes (now body)) ⌝ }
-    requires { ⌜ length (now body) / 2 ≤ 127 ⌝ }
-    requires { ⌜ length (now out) ≡ 127 ⌝ }
-    ensures { λ _. ⌜ Groups (nodes (now (body .entry))) (now (out .exit)) ⌝ }
-{
-    clear(out);
-    let mut i = body.len() / WIDTH;
-    while i > 0 {
-        i -= 1;
-        let group = own(wide(species(body, i)), out[i]);
-        out[i] = group;
-        if i > 0 {
-            let above = wide(parent(body, i));
-            out[above] = sets::union(group, out[above]);
-        }
-    }
-}
-
-// No common group yet.
-fn clear_pairs(out: &mut [u64; 4096])
-    ensures { λ _. ⌜ now (out .exit) ≡ replicate 4096 0 ⌝ }
-{
-    *out = [0; 4096];
-}
-
-// The entries of a with every species of g.
-fn stamp_row(g: u64, a: usize, out: &mut [u64; 4096])
-    requires { ⌜ (a < 64) × (length (now out) ≡ 4096) ⌝ }
-    ensures { λ _. ⌜ (length (now (out .exit)) ≡ 4096) × ((x y : ℕ) → y < 64 → entry (now (out .exit)) x y ≡ cond (eqb x a && has g y) g (entry (now (out .entry)) x y)) ⌝ }
-{
-    let mut left = g;
-    while left != 0 {
-        out[a * 64 + sets::lowest(left)] = g;
-        left = sets::rest(left);
-    }
-}
-
-// The entries of every two species of g.
-fn stamp(g: u64, out: &mut [u64; 4096])
-    requires { ⌜ length (now out) ≡ 4096 ⌝ }
-    ensures { λ _. ⌜ (length (now (out .exit)) ≡ 4096) × ((x y : ℕ) → y < 64 → entry (now (out .exit)) x y ≡ cond (has g x && has g y) g (entry (now (out .entry)) x y)) ⌝ }
-{
-    let mut left = g;
-    while left != 0 {
-        stamp_row(g, sets::lowest(left), out);
-        left = sets::rest(left);
-    }
-}
-
-// The smallest common group of each two species: a parent stands before its children, so it is the last group that has both.
-pub fn pairs(body: &[u8], groups: &[u64; 127], out: &mut [u64; 4096])
-    requires { ⌜ Good 64 (nodes (now body)) ⌝ }
-    requires { ⌜ Groups (nodes (now body)) (now groups) ⌝ }
-    requires { ⌜ (0 < length (now body) / 2) × (length (now body) / 2 ≤ 127) ⌝ }
-    requires { ⌜ length (now out) ≡ 4096 ⌝ }
-    ensures { λ _. ⌜ Meets (treeOf (now (body .entry))) (now (out .exit)) ⌝ }
-{
-    clear_pairs(out);
-    let count = body.len() / WIDTH;
-    let mut node = 0;
-    while node < count {
-        stamp(groups[node], out);
-        node += 1;
-    }
-}
-
-// Are all three species in s?
-fn all_in(s: u64, a: usize, b: usize, c: usize) -> bool
-    requires { ⌜ (a < 64) × (b < 64) × (c < 64) ⌝ }
-    ensures { λ r. ⌜ r ≡ (has s a && (has s b && has s c)) ⌝ }
-{
-    sets::has(s, a) && sets::has(s, b) && sets::has(s, c)
-}
-
-// Does the smallest common group of a and b lack c?
-fn closer(meets: &[u64; 4096], a: usize, b: usize, c: usize) -> bool
-    requires { ⌜ (a < 64) × (b < 64) × (c < 64) ⌝ }
-    ensures { λ r. ⌜ r ≡ not (has (entry (now (meets .entry)) a b) c) ⌝ }
-{
-    !sets::has(meets[a * 64 + b], c)
-}
-
-// What a tree says of three different species, from its species and the smallest common groups.
-pub fn ask(whole: u64, meets: &[u64; 4096], a: usize, b: usize, c: usize) -> Says
-    requires { ⌜ So (different a b c) × (a < 64) × (b < 64) × (c < 64) ⌝ }
-    ensures { λ r. ⌜ ((t : Tree) → Meets t (now (meets .entry)) → whole ≡ setOf t → r ≡ says t a b c) ⌝ }
-{
-    if !all_in(whole, a, b, c) {
-        return Says::Nothing;
-    }
-    if closer(meets, a, b, c) {
-        return Says::AB;
-    }
-    if closer(meets, a, c, b) {
-        return Says::AC;
-    }
-    if closer(meets, b, c, a) {
-        return Says::BC;
-    }
-    Says::Nothing
 }
 
 // Writes node `at`.

@@ -21,10 +21,11 @@ use Rattle.answers.specs.Answers.{Exact, wrongCount}
 use Rattle.building.specs.Builds.{buildAfter, buildAnswer, buildContent, concluded, outcome, raised, shortRoom}
 use Rattle.building.specs.Grows.{Wrote}
 use Rattle.building.specs.declared.Answer.{Answer}
+use Rattle.bodies.specs.Nodes.{none}
 use Rattle.building.specs.declared.Answer.the-variants.{BadByte, BadCount, BadTable, Done, NoTree, ShortRoom}
 
 -- the tree was written to the front of a draft d, and from there to the room
-pub raise-done : (R : Outcome) (k m : ℕ) (d d′ o o′ : List ℕ) → Wrote R k 255 0 d d′ m → 2 * m ≤ length d → 2 * m ≤ length o → o′ ≡ written o (take (2 * m) d′)
+pub raise-done : (R : Outcome) (k m : ℕ) (d d′ o o′ : List ℕ) → Wrote R k none 0 d d′ m → 2 * m ≤ length d → 2 * m ≤ length o → o′ ≡ written o (take (2 * m) d′)
     → Exact (concluded R) (raised R o) (Done (record { nodes = m })) o′
 raise-done R k m d d′ o o′ w hd ho e =
     let T = w .drawn in

@@ -5,7 +5,7 @@ ghost use lib.ListN.{length};
 ghost use Rattle.sets.specs.Sets.{has, size};
 ghost use Rattle.trees.specs.Build.{build};
 ghost use Rattle.tables.specs.Bytes.{entered};
-ghost use Rattle.bodies.specs.Nodes.{roomFor};
+ghost use Rattle.bodies.specs.Nodes.{roomFor, longest};
 ghost use Rattle.answers.specs.Answers.{Exact};
 ghost use Rattle.building.specs.Builds.{concluded, raised, buildAnswer, buildAfter};
 ghost use Rattle.building.specs.Grows.{Grows};
@@ -32,8 +32,8 @@ enum Grown {
 
 // Builds a set that is not empty under `parent`, as node `at`.
 fn grow(t: &[u8], s: u64, room: &mut [u8], at: usize, parent: u8) -> Grown
-    requires { ⌜ (0 < size s) × (at + 2 * size s ≤ 128) × (length (now room) ≡ 254) ⌝ }
-    ensures { λ r. ⌜ (length (now (room .exit)) ≡ 254) × Grows (build (entered (now (t .entry))) 64 (has s)) (size s) parent at (now (room .entry)) (now (room .exit)) r ⌝ }
+    requires { ⌜ (0 < size s) × (at + 2 * size s ≤ 128) × (length (now room) ≡ longest) ⌝ }
+    ensures { λ r. ⌜ (length (now (room .exit)) ≡ longest) × Grows (build (entered (now (t .entry))) 64 (has s)) (size s) parent at (now (room .entry)) (now (room .exit)) r ⌝ }
 {
     if sets::size(s) == 1 {
         bodies::put_node(room, at, parent, sets::lowest(s) as u8);

@@ -6,14 +6,14 @@ use Prim.Native.Nat.{_<_, ℕ}
 use native.Mathlib.Omega.{arith}
 use borrow.Author.Tests.{lt-ltb}
 use lib.ListN.{length}
-use Rattle.answers.specs.Answers.{wrongCount}
+use Rattle.answers.specs.Answers.{judged, wrongCount}
 use Rattle.bodies.specs.Draws.{treeOf}
 use Rattle.bodies.specs.Nodes.{badLength}
 use Rattle.bodies.specs.declared.Broken.{Broken}
 use Rattle.bodies.specs.declared.Verdict.the-variants.{Breaks, Fine}
 use Rattle.tables.specs.Bytes.{over, wrongByte, wrongRoom}
 use Rattle.tables.specs.Checked.{checked}
-use Rattle.checking.specs.Checks.{checkAnswer, judged, settled}
+use Rattle.checking.specs.Checks.{checkAnswer, settled}
 use Rattle.checking.specs.declared.Answer.{Answer}
 use Rattle.checking.specs.declared.Answer.the-variants.{BadByte, BadCount, BadLength, BadTable, BadTree}
 

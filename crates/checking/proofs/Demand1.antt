@@ -6,22 +6,17 @@ use mathlib.Core.Path.{_∙_, _≡_, refl, sym}
 use Prim.Native.Nat.{ℕ}
 use lib.Dec.{ltb}
 use lib.ListN.{getD, length}
-use Rattle.answers.proofs.Once.{told-cond}
-use Rattle.answers.specs.Answers.{Told, broken, faultValues, firstOf, table-byte, told, triple-index, wrongCount}
+use Rattle.answers.proofs.Once.{told-cond, told-unless}
+use Rattle.answers.specs.Answers.{firstOf, judged, table-byte, told, triple-index, wrongCount}
 use Rattle.bodies.specs.Draws.{treeOf}
 use Rattle.bodies.specs.Nodes.{badLength}
-use Rattle.bodies.specs.declared.Verdict.{Verdict}
-use Rattle.bodies.specs.declared.Verdict.the-variants.{Breaks, Fine}
 use Rattle.tables.specs.Bytes.{wrongByte, wrongRoom}
 use Rattle.tables.specs.Checked.{checked, contradicted, firstDiffers, firstUnsure, passes, unforced}
 use Rattle.tables.specs.Index.{C}
 use Rattle.trees.specs.Trees.{Tree}
-use Rattle.checking.specs.Checks.{checkAnswer, checkOrder, checkTold, judged, settled, unlessBroken}
+use Rattle.checking.specs.Checks.{checkAnswer, checkOrder, checkTold, settled}
 use Rattle.checking.specs.declared.Answer.{Answer}
-
-told-unless : (w : Verdict) (y : Answer) (z : Told) → checkTold y ≡ z → checkTold (unlessBroken w y) ≡ cond (broken w) (told 6 (faultValues w)) z
-told-unless Fine y z e = e
-told-unless (Breaks x) y z e = refl
+use Rattle.checking.specs.declared.Answer.the-variants.{BadTree}
 
 -- the last two steps: PC and PI
 told-settled : (p q : Bool) (i v j : ℕ)
@@ -38,7 +33,7 @@ check-demand1 n t b =
     let i = firstDiffers n t T in
     let j = firstUnsure n t T in
     told-cond checkTold (wrongCount n) _ _ (told-cond checkTold (wrongRoom n (length t)) _ _ (told-cond checkTold (wrongByte t) _ _
-    (told-cond checkTold (badLength (length b)) _ _ (told-unless (judged n b) _ _ (told-settled (ltb i (C n 3)) (ltb j (C n 3)) i (getD t i 0) j)))))
+    (told-cond checkTold (badLength (length b)) _ _ (told-unless checkTold BadTree (λ x. refl) (judged n b) _ (told-settled (ltb i (C n 3)) (ltb j (C n 3)) i (getD t i 0) j)))))
 
 pub check-once : (n : ℕ) (t b : List ℕ) (r r′ : Answer) → r ≡ checkAnswer n t b → r′ ≡ checkAnswer n t b → r ≡ r′
 check-once n t b r r′ p q = p ∙ sym q

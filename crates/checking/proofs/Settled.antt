@@ -23,11 +23,11 @@ use Rattle.tables.specs.declared.Triple.{Triple}
 use Rattle.bodies.proofs.Drawn.{tree-below, tree-formed}
 use Rattle.bodies.proofs.Rules.{good-more, length-good}
 use Rattle.bodies.specs.Draws.{treeOf}
-use Rattle.bodies.specs.Groups.{Groups, Meets}
+use Rattle.grouping.specs.Groups.{Groups, Meets}
 use Rattle.bodies.specs.Nodes.{Good, badLength, nodes}
 use Rattle.relating.specs.Masks.{Candidate}
 use Rattle.checking.specs.Checks.{settled}
-use Rattle.checking.specs.Finds.{Hit}
+use Rattle.tables.specs.Finds.{Hit}
 use Rattle.checking.specs.declared.Answer.the-variants.{Contradicted, Passes, Unforced}
 
 -- the place of a triple that was found

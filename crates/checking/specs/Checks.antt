@@ -9,22 +9,10 @@ use Rattle.tables.specs.Bytes.{over, wrongByte, wrongRoom}
 use Rattle.tables.specs.Checked.{Checked, checked, contradicted, firstDiffers, firstUnsure, passes, unforced}
 use Rattle.tables.specs.Index.{C}
 use Rattle.bodies.specs.Draws.{treeOf}
-use Rattle.bodies.specs.Faults.{fault}
-use Rattle.bodies.specs.Nodes.{badLength, nodes}
-use Rattle.bodies.specs.declared.Verdict.{Verdict}
-use Rattle.bodies.specs.declared.Verdict.the-variants.{Breaks, Fine}
-use Rattle.answers.specs.Answers.{Step, Told, broken, brokenValues, faultValues, first-place, step, table-byte, told, tree-number, triple-index, wrongCount}
+use Rattle.bodies.specs.Nodes.{badLength}
+use Rattle.answers.specs.Answers.{Step, Told, broken, brokenValues, faultValues, first-place, judged, step, table-byte, told, tree-number, triple-index, unlessBroken, wrongCount}
 use Rattle.checking.specs.declared.Answer.{Answer}
 use Rattle.checking.specs.declared.Answer.the-variants.{BadByte, BadCount, BadLength, BadTable, BadTree, Contradicted, Passes, Unforced}
-
--- the rule that the one body breaks, if any
-abbrev pub judged : ℕ → List ℕ → Verdict
-judged n b = fault 0 (nodes b) n
-
--- a body that breaks no rule gets the answer a
-abbrev pub unlessBroken : Verdict → Answer → Answer
-unlessBroken Fine a = a
-unlessBroken (Breaks x) a = BadTree x
 
 -- what PC and PI come to
 abbrev pub settled : Checked → Answer
@@ -38,7 +26,7 @@ checkAnswer n t b =
     cond (wrongCount n) BadCount
     (cond (wrongRoom n (length t)) BadTable
     (cond (wrongByte t) (BadByte (over t))
-    (cond (badLength (length b)) BadLength (unlessBroken (judged n b) (settled (checked n t (treeOf b)))))))
+    (cond (badLength (length b)) BadLength (unlessBroken BadTree (judged n b) (settled (checked n t (treeOf b)))))))
 
 abbrev pub checkTold : Answer → Told
 checkTold Passes = told 0 []

@@ -6,13 +6,11 @@ use mathlib.Core.List.{List, [], _++_, append-nil}
 use mathlib.Core.Path.{_∙_, _≡_, ap, refl}
 use Prim.Native.Nat.{_+_, suc, zero, ℕ}
 use native.Mathlib.Omega.{arith}
-use Rattle.answers.proofs.Once.{at-most-one}
-use Rattle.answers.specs.Answers.{Step, Told, Value, broken, faultValues, firstOf, told}
-use Rattle.bodies.specs.declared.Verdict.{Verdict}
-use Rattle.bodies.specs.declared.Verdict.the-variants.{Breaks, Fine}
+use Rattle.answers.proofs.Once.{at-most-one, told-unless}
+use Rattle.answers.specs.Answers.{Step, Told, Value, firstOf}
 use Rattle.collections.specs.Layout.{judged, noByte, shortBody, shortHeader, shortLength, species, tooLong, trees, wrongCounts, wrongLength, wrongVersion}
 use Rattle.collections.specs.Order.{allTrees, answerTold, lastStep, readOrder, readValues}
-use Rattle.collections.specs.Reads.{readAnswer, readFrom, unless}
+use Rattle.collections.specs.Reads.{readAnswer, readFrom}
 use Rattle.collections.specs.declared.Answer.{Answer}
 use Rattle.collections.specs.declared.Answer.the-variants.{BadCounts, BadLength, BadTree, BadVersion, EndsEarly, Good, LeftOver}
 
@@ -35,16 +33,12 @@ module _ (f : Answer → Told) (g : Refuses f) where
   told-cond true x y z r e = g x r
   told-cond false x y z r e = e
 
-  told-unless : (v : Verdict) (a : Answer) (z : Told) → f a ≡ z → f (unless v a) ≡ cond (broken v) (told 6 (faultValues v)) z
-  told-unless Fine a z e = e
-  told-unless (Breaks x) a z e = g (BadTree x) tt
-
   module _ (b : List ℕ) (m : List Step) (vs : List Value) (h : f (Good (record { n = species b; trees = trees b })) ≡ firstOf m vs) where
     trees-told : (k j : ℕ) → k + j ≡ trees b → f (readFrom b k j) ≡ firstOf ((allTrees b k j ++ lastStep b) ++ m) vs
     unfolding readFrom allTrees
     trees-told k zero e = let q : k ≡ trees b = omega arith in rw q (told-cond (tooLong b) _ _ _ tt h)
     trees-told k (suc j) e =
-        told-cond (shortLength b k) _ _ _ tt (told-cond (wrongLength b k) _ _ _ tt (told-cond (shortBody b k) _ _ _ tt (told-unless (judged b k) _ _ (trees-told (suc k) j (omega arith)))))
+        told-cond (shortLength b k) _ _ _ tt (told-cond (wrongLength b k) _ _ _ tt (told-cond (shortBody b k) _ _ _ tt (told-unless f BadTree (λ x. g (BadTree x) tt) (judged b k) _ (trees-told (suc k) j (omega arith)))))
 
     pub read-then : f (readAnswer b) ≡ firstOf (readOrder b ++ m) vs
     unfolding readAnswer readOrder

@@ -10,12 +10,13 @@ use lib.ListN.{drop, length, take}
 use Rattle.bodies.specs.Faults.{fault}
 use Rattle.bodies.specs.Nodes.{badLength, nodes}
 use Rattle.bodies.specs.declared.Verdict.{Verdict}
+use Rattle.answers.specs.Answers.{unlessBroken}
 use Rattle.bodies.specs.declared.Verdict.the-variants.{Breaks, Fine}
 use Rattle.collections.proofs.Starts.{start-step}
 use Rattle.collections.specs.Layout.{judged, lengthAt, shortBody, shortLength, species, start, trees, wrongLength}
-use Rattle.collections.specs.Reads.{after, nextOf, onward, readFrom, unless}
+use Rattle.collections.specs.Reads.{after, nextOf, onward, readFrom}
 use Rattle.collections.specs.declared.Answer.{Answer}
-use Rattle.collections.specs.declared.Answer.the-variants.{BadLength, EndsEarly, Good, LeftOver}
+use Rattle.collections.specs.declared.Answer.the-variants.{BadLength, BadTree, EndsEarly, Good, LeftOver}
 use Rattle.collections.specs.declared.Next.{Next}
 use Rattle.collections.specs.declared.Next.the-variants.{At, Stop}
 
@@ -56,7 +57,7 @@ after-cond : (c : Bool) (x : Answer) (s : Next) (a : Answer) → after (cond c (
 after-cond true x s a = refl
 after-cond false x s a = refl
 
-after-onward : (v : Verdict) (p : ℕ) (a : Answer) → after (onward v p) a ≡ unless v a
+after-onward : (v : Verdict) (p : ℕ) (a : Answer) → after (onward v p) a ≡ unlessBroken BadTree v a
 after-onward Fine p a = refl
 after-onward (Breaks x) p a = refl
 

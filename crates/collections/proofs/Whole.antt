@@ -13,6 +13,7 @@ use Rattle.bodies.proofs.Rules.{length-good, no-fault}
 use Rattle.bodies.specs.Nodes as Nodes
 use Rattle.bodies.specs.Nodes.{badLength, nodes}
 use Rattle.bodies.specs.declared.Verdict.{Verdict}
+use Rattle.answers.specs.Answers.{unlessBroken}
 use Rattle.bodies.specs.declared.Verdict.the-variants.{Breaks, Fine}
 use Rattle.sets.proofs.Bools.{ne-e, or-none, test}
 use Rattle.collections.proofs.Header.{read-trees}
@@ -20,9 +21,9 @@ use Rattle.collections.proofs.Starts.{start-suc}
 use Rattle.collections.proofs.Steps.{end-good}
 use Rattle.collections.specs.Collection.{Collection}
 use Rattle.collections.specs.Layout.{bodyAt, judged, lengthAt, noByte, shortBody, shortHeader, shortLength, species, start, trees, version, wrongCounts, wrongLength, wrongVersion}
-use Rattle.collections.specs.Reads.{readAnswer, readFrom, unless}
+use Rattle.collections.specs.Reads.{readAnswer, readFrom}
 use Rattle.collections.specs.declared.Answer.{Answer}
-use Rattle.collections.specs.declared.Answer.the-variants.{BadCounts, BadLength, BadVersion, EndsEarly, Good, LeftOver}
+use Rattle.collections.specs.declared.Answer.the-variants.{BadCounts, BadLength, BadTree, BadVersion, EndsEarly, Good, LeftOver}
 use Rattle.collections.specs.declared.Counts.{Counts}
 
 -- what is so of tree k in a good collection
@@ -33,7 +34,7 @@ not-good : (c : Bool) (x y : Answer) (k : Counts) → (x ≡ Good k → ⊥) →
 not-good true x y k n e = absurd (n e)
 not-good false x y k n e = (refl, e)
 
-unless-good : (v : Verdict) (a : Answer) (k : Counts) → unless v a ≡ Good k → (v ≡ Fine) × (a ≡ Good k)
+unless-good : (v : Verdict) (a : Answer) (k : Counts) → unlessBroken BadTree v a ≡ Good k → (v ≡ Fine) × (a ≡ Good k)
 unless-good Fine a k e = (refl, e)
 unless-good (Breaks x) a k e = let z : _≡_ {A = ℕ} 0 1 = cc in absurd (omega arith)
 

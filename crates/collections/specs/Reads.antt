@@ -5,22 +5,16 @@ use Prim.Native.Nat.{ℕ, zero, suc, _-_}
 use lib.Dec.{ltb}
 use lib.ListN.{length}
 use Rattle.bodies.specs.declared.Verdict.{Verdict}
-use Rattle.bodies.specs.declared.Verdict.the-variants.{Fine, Breaks}
+use Rattle.answers.specs.Answers.{unlessBroken}
 use Rattle.collections.specs.declared.Answer.{Answer}
 use Rattle.collections.specs.declared.Answer.the-variants.{Good, BadVersion, BadCounts, EndsEarly, LeftOver, BadLength, BadTree}
 use Rattle.collections.specs.declared.Next.{Next}
 use Rattle.collections.specs.declared.Next.the-variants.{At, Stop}
 use Rattle.collections.specs.Layout.{species, trees, start, judged, wrongVersion, wrongCounts, noByte, shortHeader, shortLength, shortBody, wrongLength}
 
--- a broken rule is the answer; otherwise it goes on
-abbrev pub unless : Verdict → Answer → Answer
-unless Fine a = a
-unless (Breaks x) a = BadTree x
-
 -- after a tree: where the next one starts, or the answer
 abbrev pub onward : Verdict → ℕ → Next
-onward Fine p = At p
-onward (Breaks x) p = Stop (BadTree x)
+onward v p = unlessBroken (λ x. Stop (BadTree x)) v (At p)
 
 abbrev pub after : Next → Answer → Answer
 after (At p) a = a
@@ -40,7 +34,7 @@ module _ (b : List ℕ) where
       cond (shortLength b k) (EndsEarly k)
       (cond (wrongLength b k) (BadLength k)
       (cond (shortBody b k) (EndsEarly k)
-      (unless (judged b k) a)))
+      (unlessBroken BadTree (judged b k) a)))
 
   -- j trees from tree k on, and then what is left over
   unfoldable pub readFrom : ℕ → ℕ → Answer

@@ -20,21 +20,21 @@ pub enum Answer {
 }
 
 // Enters what a tree says of the triple a < b < c.
-fn note(s: bodies::Says, a: usize, b: usize, c: usize, t: &mut [u8])
+fn note(s: grouping::Says, a: usize, b: usize, c: usize, t: &mut [u8])
     requires { ⌜ (a < b) × (b < c) × (c < 64) × (index a b c < length (now t)) ⌝ }
     ensures { λ _. ⌜ now (t .exit) ≡ noted s (now (t .entry)) a b c ⌝ }
 {
     match s {
-        bodies::Says::AB => {
+        grouping::Says::AB => {
             tables::put_ab(t, a, b, c);
         }
-        bodies::Says::AC => {
+        grouping::Says::AC => {
             tables::put_ac(t, a, b, c);
         }
-        bodies::Says::BC => {
+        grouping::Says::BC => {
             tables::put_bc(t, a, b, c);
         }
-        bodies::Says::Nothing => {}
+        grouping::Says::Nothing => {}
     }
 }
 
@@ -45,7 +45,7 @@ fn row(whole: u64, meets: &[u64; 4096], b: usize, c: usize, t: &mut [u8])
 {
     let mut a = 0;
     while a < b {
-        note(bodies::ask(whole, meets, a, b, c), a, b, c, t);
+        note(grouping::ask(whole, meets, a, b, c), a, b, c, t);
         a += 1;
     }
 }
@@ -68,8 +68,8 @@ fn tree(n: usize, body: &[u8], groups: &mut [u64; 127], meets: &mut [u64; 4096],
     requires { ⌜ (length (now groups) ≡ 127) × (length (now meets) ≡ 4096) × (length (now t) ≡ C n 3) ⌝ }
     ensures { λ _. ⌜ (length (now (groups .exit)) ≡ 127) × (length (now (meets .exit)) ≡ 4096) × (length (now (t .exit)) ≡ C n 3) × Adds (treeOf (now (body .entry))) 0 (C n 3) (now (t .entry)) (now (t .exit)) ⌝ }
 {
-    bodies::groups(body, groups);
-    bodies::pairs(body, groups, meets);
+    grouping::groups(body, groups);
+    grouping::pairs(body, groups, meets);
     let whole = groups[0];
     let mut c = 0;
     while c < n {

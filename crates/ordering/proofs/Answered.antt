@@ -7,14 +7,14 @@ use borrow.Author.Tests.{le-ltb, lt-ltb, ltb-false}
 use lib.Dec.{eqb}
 use lib.ListN.{length}
 use Rattle.sets.proofs.Bools.{or-none}
-use Rattle.answers.specs.Answers.{Exact, wrongCount}
+use Rattle.answers.specs.Answers.{Exact, judged, wrongCount}
 use Rattle.bodies.proofs.Counts.{all-nodes}
 use Rattle.bodies.proofs.Rules.{good-more, length-good, no-fault}
 use Rattle.bodies.specs.Draws.{nodeCount, ordered, treeOf, written}
 use Rattle.bodies.specs.Nodes.{Good, badLength, nodes, width}
 use Rattle.bodies.specs.declared.Broken.{Broken}
 use Rattle.bodies.specs.declared.Verdict.the-variants.{Breaks, Fine}
-use Rattle.ordering.specs.Orders.{judged, orderAfter, orderAnswer, orderContent}
+use Rattle.ordering.specs.Orders.{orderAfter, orderAnswer, orderContent}
 use Rattle.ordering.specs.declared.Answer.{Answer}
 use Rattle.ordering.specs.declared.Answer.the-variants.{BadCount, BadLength, BadTree, Done, ShortRoom}
 

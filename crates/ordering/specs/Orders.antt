@@ -6,33 +6,21 @@ use Prim.Native.Nat.{ℕ}
 use lib.Dec.{ltb}
 use lib.ListN.{length}
 use Rattle.bodies.specs.Nodes.{nodes, badLength}
-use Rattle.bodies.specs.Faults.{fault}
 use Rattle.bodies.specs.Draws.{ordered, written}
-use Rattle.bodies.specs.declared.Verdict.{Verdict}
-use Rattle.bodies.specs.declared.Verdict.the-variants.{Fine, Breaks}
-use Rattle.answers.specs.Answers.{Value, node-count, tree-number, Told, told, Step, step, wrongCount, broken, brokenValues, faultValues}
+use Rattle.answers.specs.Answers.{Value, node-count, tree-number, Told, told, Step, step, wrongCount, broken, brokenValues, faultValues, judged, unlessBroken}
 use Rattle.ordering.specs.declared.Answer.{Answer}
 use Rattle.ordering.specs.declared.Answer.the-variants.{Done, BadCount, BadLength, BadTree, ShortRoom}
-
--- the rule that the one body breaks, if any
-abbrev pub judged : ℕ → List ℕ → Verdict
-judged n b = fault 0 (nodes b) n
 
 -- "room shorter than the body", for a room of l bytes
 abbrev pub shortRoom : List ℕ → ℕ → Bool
 shortRoom b l = ltb l (length b)
-
--- a body that breaks no rule gets the answer a
-abbrev pub unlessBroken : Verdict → Answer → Answer
-unlessBroken Fine a = a
-unlessBroken (Breaks x) a = BadTree x
 
 -- the answer for n species, the body b and a room of l bytes
 unfoldable pub orderAnswer : ℕ → List ℕ → ℕ → Answer
 orderAnswer n b l =
     cond (wrongCount n) BadCount
     (cond (badLength (length b)) BadLength
-    (unlessBroken (judged n b) (cond (shortRoom b l) ShortRoom (Done (record { nodes = nodes b .count })))))
+    (unlessBroken BadTree (judged n b) (cond (shortRoom b l) ShortRoom (Done (record { nodes = nodes b .count })))))
 
 -- "Every number but 0 changes no lent byte. On 0 [..] order and build write the body and change nothing behind it."
 unfoldable pub orderContent : Answer → List ℕ → List ℕ → List ℕ

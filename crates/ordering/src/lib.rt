@@ -6,9 +6,9 @@ ghost use lib.Dec.{eqb};
 ghost use lib.ListN.{length};
 ghost use lib.Seq.{sets};
 ghost use Rattle.trees.specs.Trees.{house};
-ghost use Rattle.bodies.specs.Nodes.{nodes, width, Good};
+ghost use Rattle.bodies.specs.Nodes.{nodes, width, Good, none};
 ghost use Rattle.bodies.specs.Draws.{subtree, nodeCount, bytes};
-ghost use Rattle.bodies.specs.Groups.{Groups};
+ghost use Rattle.grouping.specs.Groups.{Groups};
 ghost use Rattle.answers.specs.Answers.{wrongCount, Exact};
 ghost use Rattle.ordering.specs.Orders.{orderAnswer, orderAfter};
 ghost use Rattle.ordering.specs.Children.{ChildWith};
@@ -51,7 +51,7 @@ fn child_with(body: &[u8], groups: &[u64; 127], i: usize, x: usize) -> usize
 
 // The species under the children of a node: a leaf has none.
 fn lower(species: u8, group: u64) -> u64
-    ensures { λ r. ⌜ r ≡ cond (eqb species 255) group 0 ⌝ }
+    ensures { λ r. ⌜ r ≡ cond (eqb species none) group 0 ⌝ }
 {
     if species == bodies::NONE { group } else { 0 }
 }
@@ -98,7 +98,7 @@ pub fn order(n: usize, body: &[u8], room: &mut [u8]) -> Answer
         return Answer::ShortRoom;
     }
     let mut groups = [0; 127];
-    bodies::groups(body, &mut groups);
+    grouping::groups(body, &mut groups);
     let count = put(body, &groups, 0, bodies::NONE, 0, room);
     Answer::Done(Written { nodes: count })
 }

@@ -1,5 +1,5 @@
--- Building from a good table: a tree with every species that holds all that was entered, in house order; or a set that shows why there is none.
--- Assumes nothing.
+-- Building from a good table: Aho's tree, with every species, which holds all that was entered, in house order; or a set that shows why there is
+-- none. Assumes nothing.
 use mathlib.Core.Bool.{So}
 use mathlib.Core.List.{List, [], _∷_}
 use mathlib.Core.Logic.{inl, inr}
@@ -13,7 +13,8 @@ use Rattle.sets.proofs.Sizes.{size-members}
 use Rattle.sets.proofs.Tests.{number-is, number-lt}
 use Rattle.sets.specs.Sets.{has, number, size}
 use Rattle.sets.specs.Species.{Below, Inside, Species, below, members}
-use Rattle.trees.proofs.Theorems.{StoppingSet, build-refuses, built-tree, stopping-set}
+use Rattle.trees.proofs.Theorems.{StoppingSet, build-refuses, built-aho, built-tree, stopping-set}
+use Rattle.trees.specs.Aho.{AhoTree}
 use Rattle.trees.specs.Build.{Outcome, build, stop, tree}
 use Rattle.trees.specs.Held.{HeldBy}
 use Rattle.trees.specs.Links.{JoinedByWalks}
@@ -84,7 +85,8 @@ module _ (n : ℕ) (t o : List ℕ) (c : Count n) (g : Table n t) (room : roomFo
           long = body-badLength n T (built .0 .formed) built-below (c .most);
         });
         held = subst (λ (u : Tree). HeldBy (entered t) (below n) u) (sym back) (built .0);
-        housed = subst (λ (u : Tree). So (inHouseOrder u)) (sym back) (built .1);
+        aho = subst (λ (u : Tree). AhoTree (entered t) u) (sym back) (built-aho (entered t) (entered-proper t) n (below n) (all-below n) 0 first T e);
+        housed = record { preorder = stands ∙ ap bodyOf (sym back); children = subst (λ (u : Tree). So (inHouseOrder u)) (sym back) (built .1) };
       };
       refuses = ((λ z. absurd (omega (arith, z))), λ no. absurd (no (T, built .0)));
       shows = λ z. absurd (omega (arith, z));

@@ -10,14 +10,14 @@ use Rattle.trees.proofs.Theorems.{HouseOrder, house-order}
 use Rattle.trees.specs.Trees.{SameGroups, Tree, house, inHouseOrder}
 use Rattle.bodies.proofs.Houses.{good-formed, ordered-badLength, ordered-good, ordered-length, ordered-tree}
 use Rattle.bodies.proofs.Rules.{length-good, no-fault}
-use Rattle.bodies.specs.Draws.{ordered, treeOf, written}
+use Rattle.bodies.specs.Draws.{bodyOf, ordered, treeOf, written}
 use Rattle.bodies.specs.Nodes.{nodes, width}
 use Rattle.answers.specs.Answers.{node-count, told}
 use Rattle.ordering.specs.Orders.{orderAnswer, orderContent, orderTold}
 use Rattle.ordering.specs.declared.Answer.{Answer}
 use Rattle.ordering.specs.declared.Answer.the-variants.{Done}
 use Rattle.promises.specs.Candidates.{Given, gives, orders}
-use Rattle.promises.specs.Demand2.{Body, Count, Orders, front}
+use Rattle.promises.specs.Demand2.{Body, Count, HouseBody, Orders, front}
 use Rattle.promises.proofs.Gives.{count-right}
 use Rattle.promises.proofs.Wrote.{front-is, wrote}
 
@@ -31,8 +31,8 @@ module _ (n : ℕ) (b : List ℕ) (c : Count n) (g : Body n b) where
   pub ordered-body : Body n (ordered b)
   ordered-body = record { good = ordered-good n (c .most) b (g .good) (g .long); long = ordered-badLength n (c .most) b (g .good) (g .long) }
 
-  pub ordered-housed : So (inHouseOrder (treeOf (ordered b)))
-  ordered-housed = subst (λ (T : Tree). So (inHouseOrder T)) (sym ordered-is) (in-house .ordered)
+  ordered-housed : HouseBody (ordered b)
+  ordered-housed = record { preorder = ap bodyOf (sym ordered-is); children = subst (λ (T : Tree). So (inHouseOrder T)) (sym ordered-is) (in-house .ordered) }
 
   pub ordered-same : SameGroups (treeOf (ordered b)) (treeOf b)
   ordered-same = subst (λ (T : Tree). SameGroups T (treeOf b)) (sym ordered-is) (in-house .groups)
@@ -60,6 +60,6 @@ module _ (n : ℕ) (b : List ℕ) (c : Count n) (g : Body n b) where
       count = nodes b .count;
       told-is = refl;
       wrote = wrote n (nodes b .count) o (ordered b) long fits ordered-body;
-      housed = subst (λ (u : List ℕ). So (inHouseOrder (treeOf u))) (sym stands) ordered-housed;
+      housed = subst HouseBody (sym stands) ordered-housed;
       groups = subst (λ (u : List ℕ). SameGroups (treeOf u) (treeOf b)) (sym stands) ordered-same;
     })

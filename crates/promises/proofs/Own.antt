@@ -4,8 +4,7 @@ use mathlib.Core.Bool.{So}
 use mathlib.Core.List.{List}
 use mathlib.Core.Logic.{_⊎_, inl, inr, ⊎-elim}
 use mathlib.Core.Path.{_≡_, sym, _∙_}
-use Prim.Native.Nat.{ℕ, _≤_}
-use lib.ListN.{length}
+use Prim.Native.Nat.{ℕ}
 use Rattle.sets.proofs.Bools.{and-l, and-r, not-e, or-case}
 use Rattle.sets.specs.Species.{below}
 use Rattle.trees.proofs.Agreement.{R-in}

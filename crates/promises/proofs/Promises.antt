@@ -48,8 +48,8 @@ demand1 = record {
   checking = check-demand1;
 }
 
--- The table has the bits of all trees, or of all records, and no others; house order keeps the groups; the builder gives a tree that holds every triplet
--- entered, and refuses exactly when there is none; the check passes a tree exactly when nothing contradicts it and each of its triplets is forced.
+-- The table has the bits of all trees, or of all records, and no others; house order keeps the groups; the builder gives Aho's tree, which holds every
+-- triplet entered, and refuses exactly when no tree does; the check passes a tree exactly when nothing contradicts it and each of its triplets is forced.
 pub demand2 : Demand2 koodhaxil
 demand2 = record {
   listing = λ b t w l. good-listed b w t l;

@@ -1,7 +1,8 @@
--- Each useless function breaks the demand that document 01 names for it, as the very same record. Assumes nothing.
-use mathlib.Core.Bool.{_||_, false, false≢true, true}
+-- Each useless function breaks the demand that document 01 names for it, as the very same record; and the one that closes a gap breaks demand 2.
+-- Assumes nothing.
+use mathlib.Core.Bool.{So, _||_, false, false≢true}
 use mathlib.Core.List.{List, [], _∷_}
-use mathlib.Core.Logic.{⊎-elim}
+use mathlib.Core.Logic.{_≢_, inl, ⊎-elim}
 use mathlib.Core.Path.{_∙_, _≡_, ap, refl, subst, sym}
 use Prim.Native.Nat.{ℕ, _*_, suc, zero}
 use native.Mathlib.Omega.{arith}
@@ -9,15 +10,19 @@ use borrow.Author.Tests.{eq-eqb, eqb-true, lt-ltb, ltb-true}
 use lib.Dec.{eqb, ltb}
 use lib.ListN.{take}
 use Rattle.sets.proofs.Bools.{bool-ext, ne-e, or-case, or-l, or-r, test}
-use Rattle.sets.specs.Sets.{digit, number}
-use Rattle.sets.specs.Species.{below, members}
+use Rattle.sets.proofs.Members.{all-below}
+use Rattle.sets.specs.Sets.{digit}
+use Rattle.sets.specs.Species.{Species, below, members}
 use Rattle.trees.proofs.Groups.{same-species}
+use Rattle.trees.proofs.Theorems.{built-tree}
+use Rattle.trees.specs.Aho.{AhoTree}
 use Rattle.trees.specs.Build.{build, buildIn, tree}
-use Rattle.trees.specs.Held.{CanBeHeld}
-use Rattle.trees.specs.Links.{leads, part, parts}
-use Rattle.trees.specs.Trees.{SameGroups, leaf}
-use Rattle.tables.proofs.Bytes.{entered-empty}
-use Rattle.tables.specs.Bytes.{bitOf, entered, placeOf}
+use Rattle.trees.specs.Held.{CanBeHeld, HeldBy}
+use Rattle.trees.specs.Links.{Walk, leads, part, parts, stay, via}
+use Rattle.trees.specs.Trees.{SameGroups, cons, inHouseOrder, leaf, nil, node}
+use Rattle.tables.proofs.Bytes.{entered-empty, entered-proper, entered-zeros}
+use Rattle.tables.proofs.Limits.{over-all}
+use Rattle.tables.specs.Bytes.{bitOf, entered, over, placeOf}
 use Rattle.tables.specs.Filled.{bytesFrom, tableFor}
 use Rattle.tables.specs.Index.{C, highAt, index, largest, lowAt, midAt}
 use Rattle.bodies.proofs.Rules.{no-fault}
@@ -32,9 +37,10 @@ use Rattle.collections.specs.Reads.{readAnswer, readFrom}
 use Rattle.listing.specs.Lists.{said}
 use Rattle.building.specs.Builds.{outcome}
 use Rattle.promises.specs.Candidates.{Builder, Given, Operations, builds, checks, enters, lists, orders, reads}
-use Rattle.promises.specs.Demand2.{Body, BuildsAll, Count, ListsAll, Table, front}
+use Rattle.promises.specs.Demand2.{Body, BuildsAll, Count, Demand2, ListsAll, Table, front}
 use Rattle.promises.specs.Demand3.{Demand3, Full}
-use Rattle.promises.specs.Useless.{firstAlone, fixed, inventing, refusing, silent}
+use Rattle.promises.specs.Runs.{cherry}
+use Rattle.promises.specs.Useless.{closing, firstAlone, fixed, inventing, refusing, silent}
 use Rattle.promises.proofs.Built.{builds-tree}
 
 -- ---- one species, and its empty table
@@ -127,6 +133,42 @@ refusing-breaks-rebuilding d =
     let r = d .rebuilt 2 pair [] (0 ∷ 0 ∷ 0 ∷ 0 ∷ 0 ∷ 0 ∷ []) two pair-full refl (omega arith) in
     let e : _≡_ {A = ℕ} 10 0 = ap (λ (x : Told). x .number) (r .told-is) in
     omega arith
+
+-- a gap that is closed: no source says anything of three species, and ((0,1),2) puts two of them together
+three : Count 3
+three = record { some = omega arith; most = omega arith }
+
+abbrev unsaid : List ℕ
+unsaid = 0 ∷ []
+
+unsaid-good : Table 3 unsaid
+unfolding C over
+unsaid-good = record { long = refl; small = over-all unsaid refl }
+
+unsaid-empty : (a b c : ℕ) → So (entered unsaid a b c) → ⊥
+unsaid-empty a b c h = false≢true (sym (entered-zeros 1 a b c) ∙ h)
+
+-- where nothing is said there is no walk from a species to another
+unsaid-walk : {S : Species} {a b : ℕ} → Walk (entered unsaid) S a b → a ≢ b → ⊥
+unsaid-walk (stay a) n = n refl
+unsaid-walk (via a b c ha hb hc e w) n = unsaid-empty a b c e
+
+cherry-built : build (entered (1 ∷ [])) 3 (below 3) ≡ tree (treeOf cherry)
+unfolding build buildIn members part leads parts entered placeOf bitOf index C digit children treeAt
+cherry-built = refl
+
+-- that tree has all else that is asked: every species, all that was entered, and house order
+pub closing-held : HeldBy (entered unsaid) (below 3) (treeOf cherry) × So (inHouseOrder (treeOf cherry))
+closing-held =
+    let b = built-tree (entered (1 ∷ [])) (entered-proper (1 ∷ [])) 3 (below 3) (all-below 3) 0 refl (treeOf cherry) cherry-built in
+    (record { species = b .0 .species; formed = b .0 .formed; keeps = λ x y z hx hy hz e. absurd (unsaid-empty x y z e) }, b .1)
+
+pub closing-breaks : Demand2 (with-build closing) → ⊥
+unfolding children treeAt
+closing-breaks d =
+    let k = d .building 3 unsaid (0 ∷ 0 ∷ 0 ∷ 0 ∷ 0 ∷ 0 ∷ 0 ∷ 0 ∷ 0 ∷ 0 ∷ []) three unsaid-good (omega arith) .keeps refl in
+    let a : AhoTree (entered unsaid) (treeOf cherry) = subst (λ (m : ℕ). AhoTree (entered unsaid) (treeOf (front m cherry))) (sym (count-is 5 (k .count) (k .told-is))) (k .aho) in
+    unsaid-walk (a .0 0 1 refl refl .0 (node (cons (leaf 0) (cons (leaf 1) nil)), inl refl, refl, refl)) (omega arith)
 
 -- "one that lists only the first tree and counts the rest as read (demand 2, the bits of all trees)": a fan, and then ((0,1),2)
 abbrev papers : List ℕ

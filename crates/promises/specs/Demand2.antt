@@ -1,4 +1,4 @@
--- Demand 2, in words over trees: nothing here mentions how a tree is built. "The builder gives [a tree] which holds every triplet entered; it refuses
+-- Demand 2, in words over trees: nothing here mentions how a tree is built. "The builder gives Aho's tree, which holds every triplet entered; it refuses
 -- good input exactly when no rooted tree holds them all, naming three or more species whose links inside that set join them all. The check passes a
 -- good tree exactly when no entered triplet contradicts it and each of its own triplets is forced by the entered ones on the triples that it resolves."
 use mathlib.Core.Bool.{So, false}
@@ -9,6 +9,7 @@ use Prim.Native.Nat.{ℕ, _*_, _<_, _≤_}
 use lib.ListN.{drop, getD, length, take}
 use Rattle.sets.specs.Sets.{has, size}
 use Rattle.sets.specs.Species.{Inside, Species, below}
+use Rattle.trees.specs.Aho.{AhoTree}
 use Rattle.trees.specs.Check.{Forced, PI, R, differs}
 use Rattle.trees.specs.Held.{CanBeHeld, HeldBy}
 use Rattle.trees.specs.Links.{JoinedByWalks}
@@ -16,7 +17,7 @@ use Rattle.trees.specs.Trees.{SameGroups, Tree, inHouseOrder}
 use Rattle.trees.specs.Triplets.{Triplets, holds, onTriple}
 use Rattle.tables.specs.Bytes.{entered, top}
 use Rattle.tables.specs.Index.{C, index}
-use Rattle.bodies.specs.Draws.{treeOf}
+use Rattle.bodies.specs.Draws.{bodyOf, treeOf}
 use Rattle.bodies.specs.Nodes.{Good, badLength, nodes, roomFor, width}
 use Rattle.answers.specs.Answers.{Told, node-count, species-count, stopping-set, table-byte, told, tree-count, triple-index}
 use Rattle.collections.specs.Collection.{Collection}
@@ -95,11 +96,16 @@ pub record Wrote (n k : ℕ) (o o′ : List ℕ) : Type 0 where
 
 -- ---- house order
 
+-- "House order: nodes in preorder, children by their lowest species."
+pub record HouseBody (b : List ℕ) : Type 0 where
+  pub preorder : b ≡ bodyOf (treeOf b)
+  pub children : So (inHouseOrder (treeOf b))
+
 pub record Orders (n : ℕ) (b o : List ℕ) (g : Given) : Type 0 where
   pub count : ℕ
   pub told-is : g .told ≡ told 0 (node-count count ∷ [])
   pub wrote : Wrote n count o (g .after)
-  pub housed : So (inHouseOrder (treeOf (front count (g .after))))
+  pub housed : HouseBody (front count (g .after))
   pub groups : SameGroups (treeOf (front count (g .after))) (treeOf b)
 
 abbrev pub OrdersAll : Orderer → Type 0
@@ -107,13 +113,14 @@ OrdersAll f = (n : ℕ) (b o : List ℕ) → Count n → Body n b → length b �
 
 -- ---- the builder, for the entered triplets E and the species S
 
--- a tree with exactly the species, which holds every entered triplet, in house order
+-- Aho's tree, with exactly the species, which holds every entered triplet, in house order
 pub record Keeps (E : Triplets) (n : ℕ) (S : Species) (o : List ℕ) (g : Given) : Type 0 where
   pub count : ℕ
   pub told-is : g .told ≡ told 0 (node-count count ∷ [])
   pub wrote : Wrote n count o (g .after)
   pub held : HeldBy E S (treeOf (front count (g .after)))
-  pub housed : So (inHouseOrder (treeOf (front count (g .after))))
+  pub aho : AhoTree E (treeOf (front count (g .after)))
+  pub housed : HouseBody (front count (g .after))
 
 -- a set of three or more species, which links inside it join
 pub record Shows (E : Triplets) (S : Species) (g : Given) : Type 0 where

@@ -16,7 +16,7 @@ use Rattle.sets.specs.Species.{any}
 use Rattle.trees.specs.Check.{R}
 use Rattle.trees.specs.Triplets.{Triplets, only}
 use Rattle.tables.specs.Bytes.{entered}
-use Rattle.bodies.specs.Groups.{entry}
+use Rattle.grouping.specs.Groups.{entry}
 use Rattle.relating.specs.Grown.{Grown, Noted}
 
 -- ---- growing

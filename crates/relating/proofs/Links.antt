@@ -20,8 +20,8 @@ use Rattle.trees.proofs.Parts.{part-closed, part-least, part-refl, part-sym}
 use Rattle.trees.specs.Check.{Joins}
 use Rattle.trees.specs.Links.{linked, part}
 use Rattle.trees.specs.Triplets.{Proper, Triplets}
-use Rattle.bodies.proofs.Cells.{rest-lacks, rest-others}
-use Rattle.bodies.specs.Groups.{entry}
+use Rattle.grouping.proofs.Cells.{rest-lacks, rest-others}
+use Rattle.grouping.specs.Groups.{entry}
 use Rattle.relating.specs.Grown.{ties, touch}
 use Rattle.relating.specs.Masks.{Masks}
 

@@ -21,8 +21,8 @@ use Rattle.trees.specs.Trees.{Tree}
 use Rattle.trees.specs.Triplets.{Proper, Triplets, holds, only, resolves}
 use Rattle.tables.proofs.Bytes.{entered-proper}
 use Rattle.tables.specs.Bytes.{entered}
-use Rattle.bodies.specs.Groups.{entry, says}
-use Rattle.bodies.specs.declared.Says.the-variants.{AB, AC, BC, Nothing}
+use Rattle.grouping.specs.Groups.{entry, says}
+use Rattle.grouping.specs.declared.Says.the-variants.{AB, AC, BC, Nothing}
 use Rattle.relating.proofs.Growth.{grown-as, grown-both, grown-none}
 use Rattle.relating.specs.Grown.{Grown, Noted, inLevel, inRow, inTriple, inTriples, settled, shown}
 use Rattle.relating.specs.Masks.{Candidate, Masks}

@@ -11,9 +11,9 @@ use Rattle.trees.specs.Check.{R}
 use Rattle.trees.specs.Trees.{Tree}
 use Rattle.trees.specs.Triplets.{Triplets, onTriple, only}
 use Rattle.tables.specs.Bytes.{entered}
-use Rattle.bodies.specs.Groups.{Meets, entry, setOf}
-use Rattle.bodies.specs.declared.Says.{Says}
-use Rattle.bodies.specs.declared.Says.the-variants.{AB, AC, BC, Nothing}
+use Rattle.grouping.specs.Groups.{Meets, entry, setOf}
+use Rattle.grouping.specs.declared.Says.{Says}
+use Rattle.grouping.specs.declared.Says.the-variants.{AB, AC, BC, Nothing}
 
 -- what a tree says of a triple is one of the three triplets
 unfoldable pub settled : Says → Bool

@@ -8,7 +8,7 @@ use Rattle.sets.specs.Sets.{number}
 use Rattle.sets.specs.Species.{Below}
 use Rattle.trees.specs.Trees.{Tree, under, wellFormed}
 use Rattle.trees.specs.Triplets.{Triplets}
-use Rattle.bodies.specs.Groups.{Meets, entry, setOf}
+use Rattle.grouping.specs.Groups.{Meets, entry, setOf}
 
 pub record Masks (E : Triplets) (m : List ℕ) : Type 0 where
   pub size : length m ≡ 4096

@@ -12,7 +12,7 @@ ghost use Rattle.trees.specs.Links.{part};
 ghost use Rattle.trees.specs.Trees.{Tree};
 ghost use Rattle.trees.specs.Triplets.{Triplets, Proper, different, only, resolves};
 ghost use Rattle.tables.specs.Bytes.{entered};
-ghost use Rattle.bodies.specs.Groups.{Meets, setOf};
+ghost use Rattle.grouping.specs.Groups.{Meets, setOf};
 ghost use Rattle.relating.specs.Masks.{Masks, Candidate};
 ghost use Rattle.relating.specs.Grown.{Grown, Noted, inTriple, inRow, inLevel, touch};
 
@@ -48,12 +48,12 @@ fn resolved(whole: u64, meets: &[u64; 4096], a: usize, b: usize, c: usize) -> bo
     requires { ⌜ So (different a b c) × (a < 64) × (b < 64) × (c < 64) ⌝ }
     ensures { λ r. ⌜ ((T : Tree) → Meets T (now (meets .entry)) → whole ≡ setOf T → r ≡ resolves T a b c) ⌝ }
 {
-    let s = bodies::ask(whole, meets, a, b, c);
+    let s = grouping::ask(whole, meets, a, b, c);
     match s {
-        bodies::Says::AB => true,
-        bodies::Says::AC => true,
-        bodies::Says::BC => true,
-        bodies::Says::Nothing => false,
+        grouping::Says::AB => true,
+        grouping::Says::AC => true,
+        grouping::Says::BC => true,
+        grouping::Says::Nothing => false,
     }
 }
 

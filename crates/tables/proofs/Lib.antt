@@ -6,6 +6,7 @@ pub mod Places
 pub mod Bytes
 pub mod Limits
 pub mod Find
+pub mod Search
 pub mod Passing
 pub mod Fillings
 pub mod Known

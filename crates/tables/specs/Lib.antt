@@ -2,6 +2,7 @@
 pub mod Index
 pub mod Bytes
 pub mod Find
+pub mod Finds
 pub mod Checked
 pub mod Filled
 pub mod Named

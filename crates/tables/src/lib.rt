@@ -25,6 +25,12 @@ pub enum Named {
     Beyond,
 }
 
+// Where a search for the first triple in index order ended.
+pub enum Found {
+    Nowhere,
+    At(Triple),
+}
+
 // What is entered of a triple a < b < c: ab|c, ac|b, bc|a.
 pub struct Said {
     pub ab: bool,

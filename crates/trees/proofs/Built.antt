@@ -104,7 +104,7 @@ module _ (E : Triplets) (N : ℕ) (pr : Proper E) where
     keeps = λ a b c ha hb hc e. or-r (cuts (underF f) a b c) _ (H .keeps a b c ha hb hc e (parts-cover E N S bd pr a ha));
   }
 
-  built-in : (k : ℕ) (S : Species) → Below N S → (u : ℕ) → So (S u) → (t : Tree) → buildIn E N k S ≡ tree t → Built E S t
+  pub built-in : (k : ℕ) (S : Species) → Below N S → (u : ℕ) → So (S u) → (t : Tree) → buildIn E N k S ≡ tree t → Built E S t
   unfolding buildIn
   built-in zero S bd u hu t e = let z : _≡_ {A = ℕ} 0 1 = cc in absurd (omega arith)
   built-in (suc k) S bd u hu t e = ⊎-elim

@@ -29,7 +29,7 @@ module _ (E : Triplets) (N : ℕ) (pr : Proper E) (U : Species) (bd : Below N U)
   ))
 
 module _ (E : Triplets) (U : Species) where
-  follow : (X : Species) → Closed E U X → (a b : ℕ) → Walk E U a b → So (X a) → So (X b)
+  pub follow : (X : Species) → Closed E U X → (a b : ℕ) → Walk E U a b → So (X a) → So (X b)
   follow X cl a b (stay z) h = h
   follow X cl a b (via z i j ha hi hj e k) h = follow X cl i b k (cl z i j h ha hi hj e)
 
@@ -45,12 +45,15 @@ module _ (E : Triplets) (U : Species) where
   walk N (suc k) a b h = or-case (reach E N U k a b) _ h (λ j. walk N k a b j)
       (λ j. onward a k b (walk N k a k (and-l (reach E N U k a k) _ j)) (walk N k k b (and-r (reach E N U k a k) _ j)))
 
+  pub part-walk : (N a b : ℕ) → So (part E N U a b) → Walk E U a b
+  unfolding part
+  part-walk N a b h = walk N N a b h
+
   pub walks-joined : JoinedByWalks E U → Joined E U
   walks-joined l X cl u hu xu x hx = follow X cl u x (l u x hu hx) xu
 
   pub joined-walks : (N : ℕ) → Proper E → Below N U → Joined E U → JoinedByWalks E U
-  unfolding part
-  joined-walks N pr bd c a b ha hb = walk N N a b (c (part E N U a) (part-closed E N U bd pr a) a ha (part-refl E N U bd pr a) b hb)
+  joined-walks N pr bd c a b ha hb = part-walk N a b (c (part E N U a) (part-closed E N U bd pr a) a ha (part-refl E N U bd pr a) b hb)
 
 -- ---- two species, and three
 

@@ -1,6 +1,6 @@
 -- The children of a node: each lies in its forest, splits what the forest splits of its species, and lacks a species of it. Assumes nothing.
 use mathlib.Core.Bool.{So, false≢true, not}
-use mathlib.Core.Logic.{_⊎_, inl, inr, ⊎-elim}
+use mathlib.Core.Logic.{inl, inr, ⊎-elim}
 use mathlib.Core.Path.{_∙_, _≡_, refl, subst, sym}
 use Prim.Native.Nat.{_≤_, ℕ}
 use native.Mathlib.Omega.{arith}
@@ -76,6 +76,10 @@ two-under (cons t f) w le =
 pub every-child : (Q : Tree → Type 0) (s : Tree) (f : Forest) → EveryF Q f → Child s f → Q s
 every-child Q s nil h m = absurd m
 every-child Q s (cons t f) h m = ⊎-elim (λ e. subst Q (sym e) (h .0)) (λ k. every-child Q s f (h .1) k) m
+
+pub child-every : (Q : Tree → Type 0) (f : Forest) → ((s : Tree) → Child s f → Q s) → EveryF Q f
+child-every Q nil h = tt
+child-every Q (cons t f) h = (h t (inl refl), child-every Q f (λ s m. h s (inr m)))
 
 pub child-of : (f : Forest) (x : ℕ) → So (underF f x) → (s : Tree) × Child s f × So (under s x)
 child-of nil x h = absurd (false≢true h)

@@ -14,6 +14,7 @@ pub mod Stopping
 pub mod Joins
 pub mod Criterion
 pub mod House
+pub mod Aho
 pub mod Rebuild
 pub mod Unique
 pub mod Bound

@@ -9,6 +9,7 @@ use Rattle.sets.proofs.Bools.{and-i, and-l, and-r, bool-ext, not-e, or-case, te
 use Rattle.sets.proofs.Members.{members-two}
 use Rattle.sets.specs.Species.{Below, Inside, Species, members}
 use Rattle.trees.proofs.Agreement.{Agrees, agrees-pc, pc-agrees}
+use Rattle.trees.proofs.Aho.{aho-is-built, built-is-aho}
 use Rattle.trees.proofs.Alike.{alike}
 use Rattle.trees.proofs.Built.{built}
 use Rattle.trees.proofs.Core.{core-bars, sure-forced}
@@ -22,7 +23,8 @@ use Rattle.trees.proofs.Lowest.{housed-e, housed-i}
 use Rattle.trees.proofs.Splits.{holds-swap}
 use Rattle.trees.proofs.Stopping.{Stopping, stopping}
 use Rattle.trees.proofs.Triplets.{on-swap, on-turn}
-use Rattle.trees.proofs.Unique.{house-same, rebuilt-house, same-groups, same-house}
+use Rattle.trees.proofs.Unique.{bounded, house-same, rebuilt-house, same-groups, same-house}
+use Rattle.trees.specs.Aho.{AhoTree}
 use Rattle.trees.specs.Build.{Outcome, build, stop, tree}
 use Rattle.trees.specs.Check.{Earned, Forced, PC, PI, R, core, differs, sure, unsure}
 use Rattle.trees.specs.Held.{CanBeHeld, HeldBy}
@@ -76,6 +78,10 @@ module _ (E : Triplets) (pr : Proper E) (N : ℕ) (S : Species) (bd : Below N S)
   pub built-tree : (t : Tree) → build E N S ≡ tree t → HeldBy E S t × So (inHouseOrder t)
   built-tree t e = let b = built E N pr S bd u hu t e in (held-built E pr S t b, housed-i t (b .formed) (b .housed))
 
+  -- And it is Aho's tree: at each node two species are under one child exactly when a walk of links on the node's own group joins them.
+  pub built-aho : (t : Tree) → build E N S ≡ tree t → AhoTree E t
+  built-aho = built-is-aho E N pr S bd u hu
+
   -- The build gives a tree exactly when some tree holds everything.
   pub build-decides : ((t : Tree) × (build E N S ≡ tree t)) ↔ CanBeHeld E S
   build-decides = ((λ r. (r .0, built-tree (r .0) (r .1) .0)), λ h. go (build E N S) refl h)
@@ -99,6 +105,21 @@ module _ (E : Triplets) (pr : Proper E) (N : ℕ) (S : Species) (bd : Below N S)
     λ h. aho E N pr S bd u hu .1 (λ U b. let ubd : Below N U = λ x q. bd x (b .inside x q) in
         let (v, w, hv, hw, ne) = b .two in h U (b .inside) (members-two N U ubd v w hv hw ne) (joined-i E N pr U ubd v hv (b .join))),
   )
+
+-- Aho's tree with exactly the species S, well formed and in house order, is what the build gives.
+pub aho-built : (E : Triplets) → Proper E → (N : ℕ) (S : Species) → Below N S → (t : Tree) → So (wellFormed t) → So (inHouseOrder t) → ((x : ℕ) → under t x ≡ S x)
+    → AhoTree E t → build E N S ≡ tree t
+aho-built E pr N S bd t f h sp a =
+    let w = formed-e t f in
+    rw (← (fun-ext sp)) (aho-is-built E N pr t (λ x k. bd x (sym (sp x) ∙ k)) w (housed-e t w h) a)
+
+-- So there is one: two well-formed trees in house order with the same species that both are Aho's tree are equal.
+pub aho-one : (E : Triplets) → Proper E → (t t′ : Tree) → So (wellFormed t) → So (wellFormed t′) → So (inHouseOrder t) → So (inHouseOrder t′)
+    → ((x : ℕ) → under t x ≡ under t′ x) → AhoTree E t → AhoTree E t′ → t ≡ t′
+aho-one E pr t t′ f f′ h h′ sp a a′ =
+    let n = bounded t in
+    let e : tree t ≡ tree t′ = sym (aho-built E pr (n .0) (under t) (n .1) t f h (λ x. refl) a) ∙ aho-built E pr (n .0) (under t) (n .1) t′ f′ h′ (λ x. sym (sp x)) a′ in
+    cc e
 
 -- ---- listing and rebuilding
 

@@ -2,6 +2,7 @@
 pub mod Trees
 pub mod Triplets
 pub mod Links
+pub mod Aho
 pub mod Build
 pub mod Held
 pub mod Check

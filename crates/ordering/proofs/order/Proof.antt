@@ -9,7 +9,7 @@ use lib.ListN.{length}
 use Rattle.answers.specs.Answers.{wrongCount}
 use Rattle.bodies.specs.Nodes.{badLength}
 use Rattle.bodies.specs.declared.Verdict.the-variants.{Fine}
-use Rattle.ordering.specs.Orders.{judged}
+use Rattle.answers.specs.Answers.{judged}
 use Rattle.ordering.proofs.Answered.{Ready, is-bad-count, is-bad-length, is-bad-tree, is-done, is-ready, is-short-room}
 use Rattle.ordering.proofs.order.Statement.{statement}
 use Rattle.ordering.proofs.order.Tie as tie

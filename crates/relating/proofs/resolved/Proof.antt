@@ -3,7 +3,7 @@ use mathlib.Core.Path.{_∙_, _≡_, ap, sym}
 use borrow.Author.Needs.{needs}
 use Rattle.trees.specs.Trees.{Tree}
 use Rattle.trees.specs.Triplets.{resolves}
-use Rattle.bodies.specs.Groups.{Meets, setOf}
+use Rattle.grouping.specs.Groups.{Meets, setOf}
 use Rattle.relating.proofs.Triples.{settled-says}
 use Rattle.relating.specs.Grown.{settled}
 use Rattle.relating.proofs.resolved.Statement.{statement}

@@ -1,0 +1,35 @@
+-- The pieces of a line, put together. Assumes nothing.
+use mathlib.Core.List.{List, [], _∷_, _++_, append-assoc, append-nil}
+use mathlib.Core.Path.{_∙_, _≡_, ap, sym}
+use Prim.Native.Nat.{ℕ}
+use Rattle.answers.specs.Answers.{Told, Exact}
+use Rattle.writing.specs.Texts.{ended, spaced}
+use Rattle.calling.specs.Lines.{barred, toldText}
+
+-- ---- values behind the number
+
+pub none-behind : (k : List ℕ) → k ≡ k ++ []
+none-behind k = sym (append-nil k)
+
+pub one-behind : (k x : List ℕ) → k ++ x ≡ k ++ (x ++ [])
+one-behind k x = ap (λ (l : List ℕ). k ++ l) (none-behind x)
+
+pub two-behind : (k x y : List ℕ) → (k ++ x) ++ y ≡ k ++ (x ++ (y ++ []))
+two-behind k x y = append-assoc k x y ∙ ap (λ (l : List ℕ). k ++ l) (one-behind x y)
+
+pub three-behind : (k x y z : List ℕ) → ((k ++ x) ++ y) ++ z ≡ k ++ (x ++ (y ++ (z ++ [])))
+three-behind k x y z = append-assoc (k ++ x) y z ∙ append-assoc k x (y ++ z) ∙ ap (λ (l : List ℕ). k ++ (x ++ l)) (one-behind y z)
+
+-- ---- the whole line
+
+pub barred-whole : (s l : List ℕ) → ((s ++ (32 ∷ 124 ∷ [])) ++ spaced l) ++ (10 ∷ []) ≡ ended (s ++ barred l)
+barred-whole s l = ap ended (append-assoc s (32 ∷ 124 ∷ []) (spaced l))
+
+-- s says the answer r, which is a; the lent bytes are o′
+module _ {A : Type 0} (tell : A → Told) {r a : A} {s : List ℕ} where
+  pub bare-line : s ≡ toldText (tell r) → r ≡ a → ended s ≡ ended (toldText (tell a))
+  bare-line e p = ap ended (e ∙ ap (λ (x : A). toldText (tell x)) p)
+
+  pub barred-line : {o o′ : List ℕ} → s ≡ toldText (tell r) → Exact a o r o′ → ended (s ++ barred o′) ≡ ended (toldText (tell a) ++ barred o)
+  barred-line {o} {o′} e x =
+      ap (λ (w : List ℕ). ended (w ++ barred o′)) (e ∙ ap (λ (y : A). toldText (tell y)) (x .is)) ∙ ap (λ (l : List ℕ). ended (toldText (tell a) ++ barred l)) (x .holds)

@@ -1,0 +1,42 @@
+-- The line of the answer and of what was lent. Assumes nothing.
+use borrow.Author.Needs.{needs}
+use Rattle.ordering.specs.Orders.{orderTold}
+use Rattle.writing.proofs.Writing.{writes-as}
+use Rattle.calling.proofs.Lines.{barred-line}
+use Rattle.calling.specs.Lines.{orderLine}
+use Rattle.calling.proofs.order_line.Statement.{statement}
+use Rattle.calling.proofs.order_line.Tie as tie
+
+order-requires : tie.Need-order-requires
+order-requires c κs = search needs
+
+order-said-requires : tie.Need-order-said-requires
+order-said-requires c κs = search needs
+
+put-barred-requires : tie.Need-put-barred-requires
+put-barred-requires c κs = search needs
+
+same-length : tie.Need-same-length
+same-length c = search needs
+
+same-length-2 : tie.Need-same-length-2
+same-length-2 c = search needs
+
+returns : tie.Need-returns
+unfolding orderLine
+returns c =
+    let z = c .before .before in
+    let s = z .before .before in
+    let a = s .before .before .before .before in
+    (writes-as _ _ _ _ _ _ (barred-line orderTold (s .order-said .ensures) (a .order .ensures)) (z .put-barred .ensures), a .order .ensures .holds)
+
+pub order-line-spec : {M : Type 1} → statement M
+order-line-spec =
+    tie.close
+    (tie.spec
+    order-requires
+    order-said-requires
+    put-barred-requires
+    same-length
+    same-length-2
+    returns)

@@ -1,0 +1,31 @@
+-- The line of the answer. Assumes nothing.
+use borrow.Author.Needs.{needs}
+use Rattle.collections.specs.Order.{answerTold}
+use Rattle.writing.proofs.Writing.{writes-as}
+use Rattle.calling.proofs.Lines.{bare-line}
+use Rattle.calling.specs.Lines.{readLine}
+use Rattle.calling.proofs.read_line.Statement.{statement}
+use Rattle.calling.proofs.read_line.Tie as tie
+
+read-requires : tie.Need-read-requires
+read-requires c κs = search needs
+
+read-said-requires : tie.Need-read-said-requires
+read-said-requires c κs = search needs
+
+put-line-requires : tie.Need-put-line-requires
+put-line-requires c κs = search needs
+
+same-length : tie.Need-same-length
+same-length c = search needs
+
+returns : tie.Need-returns
+unfolding readLine
+returns c =
+    let z = c .before .before in
+    let s = z .before in
+    writes-as _ _ _ _ _ _ (bare-line answerTold (s .read-said .ensures) (s .before .read .ensures)) (z .put-line .ensures)
+
+pub read-line-spec : {M : Type 1} → statement M
+read-line-spec =
+    tie.close (tie.spec read-requires read-said-requires put-line-requires same-length returns)

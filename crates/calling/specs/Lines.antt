@@ -1,0 +1,84 @@
+-- The line of a call. Document 01, "Numbers handed back": the number, then what is returned with it, each after a space; where a table or a room was
+-- lent, also after a refusal, a space, a bar, and its bytes as they are afterwards, each after a space. Every line ends with byte 10.
+use mathlib.Core.List.{List, [], _∷_, _++_}
+use Prim.Native.Nat.{ℕ}
+use lib.ListN.{length}
+use Rattle.bodies.specs.declared.Fault.{Fault}
+use Rattle.bodies.specs.declared.Fault.the-variants.{BadParent, BadSpecies, SeenBefore, OnlyChild}
+use Rattle.answers.specs.Answers.{Value, species-count, tree-count, node-count, tree-number, node-number, rule-broken, left-over, first-place, stopping-set, triple-index, table-byte, first-record, Told}
+use Rattle.collections.specs.Reads.{readAnswer}
+use Rattle.collections.specs.Order.{answerTold}
+use Rattle.listing.specs.Lists.{listAnswer, listAfter, listTold}
+use Rattle.entering.specs.Enters.{enterAnswer, enterAfter}
+use Rattle.entering.specs.Order.{enterTold}
+use Rattle.ordering.specs.Orders.{orderAnswer, orderAfter, orderTold}
+use Rattle.building.specs.Builds.{buildAnswer, buildAfter, buildTold}
+use Rattle.checking.specs.Checks.{checkAnswer, checkTold}
+use Rattle.writing.specs.Texts.{decimal, spaced, ended}
+
+-- a space, and the words parent, species, seen, only
+abbrev pub parent-word : List ℕ
+parent-word = 32 ∷ 112 ∷ 97 ∷ 114 ∷ 101 ∷ 110 ∷ 116 ∷ []
+
+abbrev pub species-word : List ℕ
+species-word = 32 ∷ 115 ∷ 112 ∷ 101 ∷ 99 ∷ 105 ∷ 101 ∷ 115 ∷ []
+
+abbrev pub seen-word : List ℕ
+seen-word = 32 ∷ 115 ∷ 101 ∷ 101 ∷ 110 ∷ []
+
+abbrev pub only-word : List ℕ
+only-word = 32 ∷ 111 ∷ 110 ∷ 108 ∷ 121 ∷ []
+
+-- "bad parent (that parent), bad species (it), species seen before (the earlier node), or only child"
+abbrev pub faultText : Fault → List ℕ
+faultText (BadParent p) = parent-word ++ (32 ∷ decimal p)
+faultText (BadSpecies s) = species-word ++ (32 ∷ decimal s)
+faultText (SeenBefore i) = seen-word ++ (32 ∷ decimal i)
+faultText OnlyChild = only-word
+
+-- a value after a space
+abbrev pub valueText : Value → List ℕ
+valueText (species-count n) = 32 ∷ decimal n
+valueText (tree-count m) = 32 ∷ decimal m
+valueText (node-count k) = 32 ∷ decimal k
+valueText (tree-number k) = 32 ∷ decimal k
+valueText (node-number i) = 32 ∷ decimal i
+valueText (rule-broken f) = faultText f
+valueText (left-over k) = 32 ∷ decimal k
+valueText (first-place p) = 32 ∷ decimal p
+valueText (stopping-set s) = 32 ∷ decimal s
+valueText (triple-index i) = 32 ∷ decimal i
+valueText (table-byte x) = 32 ∷ decimal x
+valueText (first-record i) = 32 ∷ decimal i
+
+abbrev pub valuesText : List Value → List ℕ
+valuesText [] = []
+valuesText (v ∷ l) = valueText v ++ valuesText l
+
+-- the number, and the values
+abbrev pub toldText : Told → List ℕ
+toldText t = decimal (t .number) ++ valuesText (t .values)
+
+-- a space, a bar, and each byte after a space
+abbrev pub barred : List ℕ → List ℕ
+barred l = 32 ∷ 124 ∷ spaced l
+
+-- ---- the lines: b is a collection, t a table and o a room as they are before the call
+
+unfoldable pub readLine : List ℕ → List ℕ
+readLine b = ended (toldText (answerTold (readAnswer b)))
+
+unfoldable pub listLine : List ℕ → List ℕ → List ℕ
+listLine b t = ended (toldText (listTold (listAnswer b (length t))) ++ barred (listAfter b t))
+
+unfoldable pub enterLine : ℕ → List (List ℕ) → List ℕ → List ℕ
+enterLine n records t = ended (toldText (enterTold (enterAnswer n records (length t))) ++ barred (enterAfter n records t))
+
+unfoldable pub orderLine : ℕ → List ℕ → List ℕ → List ℕ
+orderLine n body o = ended (toldText (orderTold (orderAnswer n body (length o))) ++ barred (orderAfter n body o))
+
+unfoldable pub buildLine : ℕ → List ℕ → List ℕ → List ℕ
+buildLine n t o = ended (toldText (buildTold (buildAnswer n t (length o))) ++ barred (buildAfter n t o))
+
+unfoldable pub checkLine : ℕ → List ℕ → List ℕ → List ℕ
+checkLine n t body = ended (toldText (checkTold (checkAnswer n t body)))

@@ -1,0 +1,2 @@
+-- The laws of PC, triple by triple.
+pub mod Contradicted

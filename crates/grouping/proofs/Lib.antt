@@ -1,0 +1,6 @@
+-- The laws of groups as numbers, of smallest common groups, and of asking.
+pub mod Common
+pub mod Asked
+pub mod Cells
+pub mod Passes
+pub mod Latest

@@ -1,0 +1,2 @@
+-- How the input of `trial` is read: definitions only.
+pub mod Records

@@ -1,0 +1,37 @@
+-- What is written behind what. Assumes nothing.
+use mathlib.Core.List.{List, [], _∷_, _++_, append-assoc, append-nil}
+use mathlib.Core.Path.{_∙_, _≡_, ap, refl, subst, sym}
+use Prim.Native.Nat.{ℕ, _+_, _<_, _≤_}
+use native.Mathlib.Numerals.{add-one}
+use native.Mathlib.Omega.{arith}
+use lib.ListN.{getD, length, length-append, length-set, set, take}
+use lib.Seq.{take-suc, take-suc-set}
+use Rattle.writing.specs.Writes.{Writes}
+
+module _ (o : List ℕ) (at : ℕ) where
+  pub writes-byte : (b : ℕ) → at < length o → Writes o at (b ∷ []) (set o at b) (at + 1)
+  writes-byte b h = record {
+    kept = length-set o at b;
+    next = refl;
+    inside = omega arith;
+    text = ap (λ (j : ℕ). take j (set o at b)) (add-one at) ∙ take-suc-set o at b h;
+  }
+
+  pub writes-nothing : at ≤ length o → Writes o at [] o at
+  writes-nothing h = record { kept = refl; next = omega arith; inside = h; text = sym (append-nil (take at o)) }
+
+  pub writes-as : (w v o′ : List ℕ) (r : ℕ) → w ≡ v → Writes o at w o′ r → Writes o at v o′ r
+  writes-as w v o′ r e x = subst (λ (z : List ℕ). Writes o at z o′ r) e x
+
+  -- v behind w
+  pub writes-both : (w v o′ o″ : List ℕ) (m r : ℕ) → Writes o at w o′ m → Writes o′ m v o″ r → Writes o at (w ++ v) o″ r
+  writes-both w v o′ o″ m r x y = record {
+    kept = y .kept ∙ x .kept;
+    next = omega (arith, x .next, y .next, length-append w v);
+    inside = omega (arith, x .kept, y .inside);
+    text = y .text ∙ ap (λ (z : List ℕ). z ++ v) (x .text) ∙ append-assoc (take at o) w v;
+  }
+
+-- the front of a list, with one more
+pub front-more : (w : List ℕ) (i : ℕ) → i < length w → take i w ++ (getD w i 0 ∷ []) ≡ take (i + 1) w
+front-more w i h = sym (ap (λ (j : ℕ). take j w) (add-one i) ∙ take-suc w i 0 h)

@@ -1,0 +1,171 @@
+/*
+ * Koodhaxil for C99 and C++: groups of species from published rooted trees, by triplets ab|c.
+ *
+ * `rt staticlib exports` writes target/staticlib/libexports.a for x86-64 Linux; compile with this folder on the include path, and link the
+ * archive. Of the C library it uses memcpy and memset. It takes no memory but the stack, keeps nothing from one call to the next, and always
+ * returns. `example.c` beside this file uses every function.
+ *
+ *
+ * SPECIES, BODIES, TABLES
+ *
+ * A run has n species, 1 to 64, numbered from 0.
+ *
+ * A body is a tree, two bytes a node: parent, species. Node 0 is the root, with parent 255; every later node's parent is a smaller node number. A
+ * node with children has species 255 and at least two children; one without has a species below n, and no species stands twice. A body has 2 to 254
+ * bytes. A tree may have only some of the species.
+ *
+ * A collection is a byte 1, n, the number of trees, 0 to 16, and for each tree the length of its body in two bytes, the higher one first, and the
+ * body. Nothing follows. It has 4,099 bytes at most.
+ *
+ * A table has C(n,3) bytes, one for each triple a < b < c, at the place KOODHAXIL_INDEX(a, b, c). In it 1 stands for ab|c, 2 for ac|b and 4 for
+ * bc|a, added together; 0 says nothing.
+ *
+ * House order: nodes in preorder, children by their lowest species.
+ *
+ *
+ * HOW SLICES ARE PASSED
+ *
+ * A slice is two arguments: a pointer, and behind it how many elements it points at. These are bytes, records (koodhaxil_triplet, three bytes each
+ * and nothing between them) or numbers (size_t, in `values`); the length counts elements, not bytes.
+ *
+ *
+ * WHAT THE CALLER ENSURES
+ *
+ * The library's answers are proved for any n, any lengths and any content: no number and no byte has to be tested before a call. The proof is about
+ * slices, and takes for granted what C does not say of a pointer and a length. Nothing tests it:
+ *
+ * - A pointer points at as many elements as its length says, which can be read, and can be written where it is not const. It is not null, even
+ *   where the length is 0; nothing is read or written there then. A pointer to size_t is aligned as a size_t is.
+ * - What is lent for writing (a pointer that is not const) overlaps nothing else that is handed to the same call. What is only read may overlap.
+ * - No other thread writes what is lent, or reads what is lent for writing, before the call returns. Calls that share no such memory may run at the
+ *   same time.
+ * - There is stack: on x86-64 some 98 KiB for checking, 53 for building, 34 for listing, and below 10 for the others.
+ *
+ *
+ * WHAT A FUNCTION ANSWERS
+ *
+ * Its result is one of the numbers below: 0 for done, any other for a refusal. What belongs to the number is laid into `values`, in the order that
+ * is given here, from place 0 on, as far as there are places; what is behind it stays. KOODHAXIL_VALUES places are enough for every answer, and 0
+ * places are allowed. Where several refusals apply, the answer is the first one in the order that stands at the function.
+ *
+ * A refusal changes no byte of a table or a room. On 0, listing and entering fill the whole table, whatever it held; house order and building write a
+ * body to the front of the room and change nothing behind it.
+ */
+#ifndef KOODHAXIL_H
+#define KOODHAXIL_H
+
+#include <stddef.h>
+#include <stdint.h>
+
+#ifdef __cplusplus
+extern "C" {
+#endif
+
+/* The numbers, and behind each one what is laid into `values`. A tree number is 0 where there is only one body. */
+enum koodhaxil_number {
+    KOODHAXIL_DONE = 0,          /* done                                               read, list: n, tree count; enter: n; */
+                                 /*                                                    order, build: node count; check: nothing */
+    KOODHAXIL_BAD_VERSION = 1,   /* the version byte is not 1                          nothing */
+    KOODHAXIL_BAD_COUNTS = 2,    /* n is 0 or over 64, or there are over 16 trees      nothing */
+    KOODHAXIL_ENDS_EARLY = 3,    /* the bytes end early                                tree number, 0 for the header */
+    KOODHAXIL_LEFT_OVER = 4,     /* bytes are left over                                how many */
+    KOODHAXIL_BAD_LENGTH = 5,    /* a body's length is 0, odd or over 254              tree number */
+    KOODHAXIL_BAD_TREE = 6,      /* a tree rule is broken                              tree number, node, fault, what the fault carries */
+    KOODHAXIL_BAD_TABLE = 7,     /* the table's length is not C(n,3)                   nothing */
+    KOODHAXIL_BAD_BYTE = 8,      /* a byte of the table is over 7                      the first such place */
+    KOODHAXIL_SHORT_ROOM = 9,    /* the room is too short                              nothing */
+    KOODHAXIL_NO_TREE = 10,      /* no tree holds every entered triplet                the set that stops: bit i for species i */
+    KOODHAXIL_CONTRADICTED = 11, /* an entered triplet contradicts the tree            triple index, table byte */
+    KOODHAXIL_UNFORCED = 12,     /* a triplet of the tree is not forced                triple index */
+    KOODHAXIL_BAD_RECORD = 13    /* a record repeats a species or has one not below n  the first such record */
+};
+
+/* The faults of refusal 6, and what each one carries. */
+enum koodhaxil_fault {
+    KOODHAXIL_BAD_PARENT = 1,  /* that parent */
+    KOODHAXIL_BAD_SPECIES = 2, /* that species */
+    KOODHAXIL_SEEN_BEFORE = 3, /* the earlier node with the same species */
+    KOODHAXIL_ONLY_CHILD = 4   /* 0; the node named is the one with a single child */
+};
+
+/* The root's parent in a body, and the species of a node with children. */
+#define KOODHAXIL_NONE 255
+
+/* The most that there can be: species, trees, and the bytes of a body, a collection and a table. */
+#define KOODHAXIL_MOST_SPECIES 64
+#define KOODHAXIL_MOST_TREES 16
+#define KOODHAXIL_MOST_BODY 254
+#define KOODHAXIL_MOST_COLLECTION 4099
+#define KOODHAXIL_MOST_TABLE 41664
+
+/* Places of `values` for the longest answer. */
+#define KOODHAXIL_VALUES 4
+
+/* For n of 1 or more: the length of a table, C(n,3), which is 0 for 1 or 2 species; and the room that a build asks for, 4n - 2. */
+#define KOODHAXIL_TABLE(n) ((size_t)(n) * ((size_t)(n) - 1) * ((size_t)(n) - 2) / 6)
+#define KOODHAXIL_ROOM(n) (4 * (size_t)(n) - 2)
+
+/* The index of the triple a < b < c: C(c,3) + C(b,2) + a. */
+#define KOODHAXIL_INDEX(a, b, c) (KOODHAXIL_TABLE(c) + (size_t)(b) * ((size_t)(b) - 1) / 2 + (size_t)(a))
+
+/* A record: the triplet ab|c. The close pair stands in either order. */
+typedef struct {
+    uint8_t a;
+    uint8_t b;
+    uint8_t c;
+} koodhaxil_triplet;
+
+/* Does not compile where the library's numbers are not a size_t, or a record is not three bytes. */
+typedef char koodhaxil_size_t_has_8_bytes[sizeof(size_t) == 8 ? 1 : -1];
+typedef char koodhaxil_triplet_has_3_bytes[sizeof(koodhaxil_triplet) == 3 ? 1 : -1];
+
+/*
+ * Reads a collection.
+ * Refusals: 3 for no byte at all, 1, 3 for fewer than three bytes, 2; then tree by tree 3 for no length, 5, 3 for a body cut short, 6; at last 4.
+ * Inside 6: the parents of all nodes first; then node by node bad species, seen before, only child.
+ */
+size_t koodhaxil_read(const uint8_t *collection, size_t collection_length, size_t *values, size_t values_length);
+
+/*
+ * Lists a collection: the table says exactly the triplets that at least one of its trees holds.
+ * Refusals: those of reading, then 7.
+ */
+size_t koodhaxil_list(const uint8_t *collection, size_t collection_length, uint8_t *table, size_t table_length, size_t *values,
+                      size_t values_length);
+
+/*
+ * Enters records: the table says exactly these triplets. A triplet may stand more than once; with no record the table is all 0.
+ * Refusals: 2, 7, 13.
+ */
+size_t koodhaxil_enter(size_t n, const koodhaxil_triplet *records, size_t records_length, uint8_t *table, size_t table_length, size_t *values,
+                       size_t values_length);
+
+/*
+ * Puts a tree in house order: its body to the front of the room, which is as long as the body or longer. Two good trees have the same groups
+ * exactly when these bodies are equal.
+ * Refusals: 2, 5, 6, 9.
+ */
+size_t koodhaxil_order(size_t n, const uint8_t *body, size_t body_length, uint8_t *room, size_t room_length, size_t *values,
+                       size_t values_length);
+
+/*
+ * Builds a tree of all n species that holds every entered triplet, in house order, to the front of the room, which has 4n - 2 bytes or more. It is
+ * refused with 10 exactly when there is no such tree.
+ * Refusals: 2, 7, 8, 9, 10.
+ */
+size_t koodhaxil_build(size_t n, const uint8_t *table, size_t table_length, uint8_t *room, size_t room_length, size_t *values,
+                       size_t values_length);
+
+/*
+ * Checks a tree against a table: 0 exactly when no entered triplet contradicts it and the entered ones force each of its own. 11 and 12 name the
+ * first triple in the order of the table.
+ * Refusals: 2, 7, 8, 5, 6, 11, 12.
+ */
+size_t koodhaxil_check(size_t n, const uint8_t *table, size_t table_length, const uint8_t *body, size_t body_length, size_t *values,
+                       size_t values_length);
+
+#ifdef __cplusplus
+}
+#endif
+
+#endif

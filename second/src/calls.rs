@@ -1,0 +1,217 @@
+//! Calls as the program `trial` reads them, and the line that answers each.
+
+use std::fmt::Write;
+
+use crate::operations::{build, check, enter, list, order, read, Refusal};
+use crate::trees::Fault;
+
+/// The longest slice, in bytes, and the longest list of records that a call may hand over.
+pub const LONGEST: usize = 65_536;
+pub const MOST_RECORDS: usize = 21_845;
+
+#[derive(Clone, Debug, PartialEq, Eq)]
+pub enum Call {
+    Read { bytes: Vec<u8> },
+    List { bytes: Vec<u8>, table: Vec<u8> },
+    Enter { n: u64, records: Vec<[u8; 3]>, table: Vec<u8> },
+    Order { n: u64, body: Vec<u8>, room: Vec<u8> },
+    Build { n: u64, table: Vec<u8>, room: Vec<u8> },
+    Check { n: u64, table: Vec<u8>, body: Vec<u8> },
+}
+
+/// The answer to a call: its number, the word of its fault where there is one, and its line
+/// without the byte 10 at the end.
+pub struct Answer {
+    pub number: u8,
+    pub fault: Option<&'static str>,
+    pub line: String,
+}
+
+impl Call {
+    /// The byte that the call begins with.
+    pub fn letter(&self) -> char {
+        match self {
+            Call::Read { .. } => 'r',
+            Call::List { .. } => 'l',
+            Call::Enter { .. } => 'e',
+            Call::Order { .. } => 'o',
+            Call::Build { .. } => 'b',
+            Call::Check { .. } => 'c',
+        }
+    }
+
+    pub fn put(&self, out: &mut Vec<u8>) {
+        fn put_slice(out: &mut Vec<u8>, slice: &[u8]) {
+            out.extend((slice.len() as u32).to_be_bytes());
+            out.extend(slice);
+        }
+        out.push(self.letter() as u8);
+        match self {
+            Call::Read { bytes } => put_slice(out, bytes),
+            Call::List { bytes, table } => {
+                put_slice(out, bytes);
+                put_slice(out, table);
+            }
+            Call::Enter { n, records, table } => {
+                out.extend(n.to_be_bytes());
+                out.extend((records.len() as u32).to_be_bytes());
+                for record in records {
+                    out.extend(record);
+                }
+                put_slice(out, table);
+            }
+            Call::Order { n, body: one, room: two }
+            | Call::Build { n, table: one, room: two }
+            | Call::Check { n, table: one, body: two } => {
+                out.extend(n.to_be_bytes());
+                put_slice(out, one);
+                put_slice(out, two);
+            }
+        }
+    }
+
+    pub fn bytes(&self) -> Vec<u8> {
+        let mut out = Vec::new();
+        self.put(&mut out);
+        out
+    }
+
+    pub fn answer(&self) -> Answer {
+        match self {
+            Call::Read { bytes } => {
+                let given = read(bytes).map(|c| vec![c.n, c.trees.len()]);
+                answer(given, None)
+            }
+            Call::List { bytes, table } => {
+                let mut table = table.clone();
+                let given = list(bytes, &mut table).map(|(n, count)| vec![n, count]);
+                answer(given, Some(&table))
+            }
+            Call::Enter { n, records, table } => {
+                let mut table = table.clone();
+                let given = enter(*n, records, &mut table).map(|n| vec![n]);
+                answer(given, Some(&table))
+            }
+            Call::Order { n, body, room } => {
+                let mut room = room.clone();
+                let given = order(*n, body, &mut room).map(|nodes| vec![nodes]);
+                answer(given, Some(&room))
+            }
+            Call::Build { n, table, room } => {
+                let mut room = room.clone();
+                let given = build(*n, table, &mut room).map(|nodes| vec![nodes]);
+                answer(given, Some(&room))
+            }
+            Call::Check { n, table, body } => {
+                let given = check(*n, table, body).map(|()| vec![]);
+                answer(given, None)
+            }
+        }
+    }
+
+    /// The next call of the input, which is not empty; none where trial says `cut`.
+    pub fn take(input: &mut &[u8]) -> Option<Call> {
+        fn take<'a>(input: &mut &'a [u8], count: usize) -> Option<&'a [u8]> {
+            if input.len() < count {
+                return None;
+            }
+            let (taken, rest) = input.split_at(count);
+            *input = rest;
+            Some(taken)
+        }
+        fn number(input: &mut &[u8], width: usize) -> Option<u64> {
+            let digits = take(input, width)?;
+            Some(digits.iter().fold(0, |value, &digit| value * 256 + digit as u64))
+        }
+        fn slice(input: &mut &[u8]) -> Option<Vec<u8>> {
+            let length = number(input, 4)? as usize;
+            if length > LONGEST {
+                return None;
+            }
+            take(input, length).map(<[u8]>::to_vec)
+        }
+        let letter = number(input, 1)? as u8;
+        Some(match letter {
+            b'r' => Call::Read { bytes: slice(input)? },
+            b'l' => Call::List { bytes: slice(input)?, table: slice(input)? },
+            b'e' => {
+                let n = number(input, 8)?;
+                let count = number(input, 4)? as usize;
+                if count > MOST_RECORDS {
+                    return None;
+                }
+                let records = take(input, 3 * count)?;
+                let records = records.chunks(3).map(|r| [r[0], r[1], r[2]]).collect();
+                Call::Enter { n, records, table: slice(input)? }
+            }
+            b'o' => Call::Order { n: number(input, 8)?, body: slice(input)?, room: slice(input)? },
+            b'b' => Call::Build { n: number(input, 8)?, table: slice(input)?, room: slice(input)? },
+            b'c' => Call::Check { n: number(input, 8)?, table: slice(input)?, body: slice(input)? },
+            _ => return None,
+        })
+    }
+}
+
+fn answer(given: Result<Vec<usize>, Refusal>, lent: Option<&[u8]>) -> Answer {
+    let mut fault_word = None;
+    let (number, values) = match given {
+        Ok(values) => (0, values.iter().map(|v| v.to_string()).collect()),
+        Err(refusal) => {
+            let values = match refusal {
+                Refusal::Version | Refusal::Size | Refusal::TableLength | Refusal::Room => vec![],
+                Refusal::Short { tree } | Refusal::BodyLength { tree } => vec![tree.to_string()],
+                Refusal::LeftOver { count } => vec![count.to_string()],
+                Refusal::TreeRule { tree, node, fault } => {
+                    let (word, value) = match fault {
+                        Fault::Parent(parent) => ("parent", Some(parent.to_string())),
+                        Fault::Species(species) => ("species", Some(species.to_string())),
+                        Fault::Seen(earlier) => ("seen", Some(earlier.to_string())),
+                        Fault::Only => ("only", None),
+                    };
+                    fault_word = Some(word);
+                    let mut values = vec![tree.to_string(), node.to_string(), word.to_string()];
+                    values.extend(value);
+                    values
+                }
+                Refusal::TableByte { place } => vec![place.to_string()],
+                Refusal::NoTree { set } => vec![set.to_string()],
+                Refusal::Contradicted { triple, byte } => {
+                    vec![triple.to_string(), byte.to_string()]
+                }
+                Refusal::NotForced { triple } => vec![triple.to_string()],
+                Refusal::Record { record } => vec![record.to_string()],
+            };
+            (refusal.number(), values)
+        }
+    };
+    let mut line = number.to_string();
+    for value in values {
+        line.push(' ');
+        line.push_str(&value);
+    }
+    if let Some(lent) = lent {
+        line.push_str(" |");
+        for byte in lent {
+            write!(line, " {byte}").expect("a string takes it");
+        }
+    }
+    Answer { number, fault: fault_word, line }
+}
+
+/// Everything that trial writes for an input.
+pub fn lines(mut input: &[u8]) -> Vec<u8> {
+    let mut out = Vec::new();
+    while !input.is_empty() {
+        match Call::take(&mut input) {
+            Some(call) => {
+                out.extend(call.answer().line.bytes());
+                out.push(10);
+            }
+            None => {
+                out.extend(b"cut\n");
+                break;
+            }
+        }
+    }
+    out
+}

@@ -1,0 +1,126 @@
+//! Entered triplets, links, parts and the build (document 01, "Triplets, links, building").
+
+use crate::trees::{tables_of_all_trees, Tree};
+use crate::triples::{all, has, members, one, triples, triplets_on};
+
+/// A set of triplets: for each pair, the species that are third to it.
+#[derive(Clone)]
+pub struct Entered {
+    n: usize,
+    third: Vec<u64>,
+}
+
+impl Entered {
+    pub fn from_table(n: usize, table: &[u8]) -> Entered {
+        let mut entered = Entered { n, third: vec![0; n * n] };
+        for (place, (a, b, c)) in triples(n).enumerate() {
+            for (bit, (x, y, z)) in triplets_on(a, b, c) {
+                if table[place] & bit != 0 {
+                    entered.third[x * n + y] |= one(z);
+                    entered.third[y * n + x] |= one(z);
+                }
+            }
+        }
+        entered
+    }
+
+    /// a and b are linked on the set when some entered triplet ab|c has all three in the set.
+    fn linked(&self, set: u64, a: usize, b: usize) -> bool {
+        self.third[a * self.n + b] & set != 0
+    }
+
+    /// The connected part of a in the set, by its links and one link more where one is given.
+    fn part(&self, set: u64, a: usize, more: Option<(usize, usize)>) -> u64 {
+        let mut part = one(a);
+        let mut look = vec![a];
+        while let Some(x) = look.pop() {
+            for y in members(set & !part) {
+                if self.linked(set, x, y) || more == Some((x, y)) || more == Some((y, x)) {
+                    part |= one(y);
+                    look.push(y);
+                }
+            }
+        }
+        part
+    }
+
+    /// The connected parts of a set, by lowest species.
+    fn parts(&self, set: u64) -> Vec<u64> {
+        let mut left = set;
+        let mut parts = Vec::new();
+        while left != 0 {
+            let part = self.part(set, left.trailing_zeros() as usize, None);
+            parts.push(part);
+            left &= !part;
+        }
+        parts
+    }
+
+    /// The tree on a set, or the first set that stops, in preorder.
+    pub fn build(&self, set: u64) -> Result<Tree, u64> {
+        if set.count_ones() == 1 {
+            return Ok(Tree::Leaf(set.trailing_zeros() as usize));
+        }
+        let parts = self.parts(set);
+        if parts.len() == 1 {
+            return Err(set);
+        }
+        let mut children = Vec::new();
+        for part in parts {
+            children.push(self.build(part)?);
+        }
+        Ok(Tree::Inner(children))
+    }
+
+    /// Whether no tree holds these triplets together with xy|z, by a chain of parts. For triplets
+    /// that some tree holds. The build of all of them can only stop at a set that has x, y and z
+    /// (elsewhere xy|z gives no link, and the others alone never stop), so only the part with x,
+    /// y and z is followed, from a set outside of which it cannot stop.
+    pub fn rules_out(&self, start: u64, x: usize, y: usize, z: usize) -> bool {
+        let mut set = start;
+        loop {
+            let part = self.part(set, x, Some((x, y)));
+            if part == set {
+                return true;
+            }
+            if !has(part, z) {
+                return false;
+            }
+            set = part;
+        }
+    }
+}
+
+/// Whether some tree with the n species as leaves holds every triplet of the table. Up to five
+/// species all trees are looked at, and the build is held against them; above that it is the build.
+pub fn some_tree_holds(n: usize, table: &[u8]) -> bool {
+    let built = Entered::from_table(n, table).build(all(n));
+    if n > 5 {
+        return built.is_ok();
+    }
+    let exists = tables_of_all_trees(n).iter().any(|says| holds_all(says, table));
+    match built {
+        Ok(tree) => {
+            assert!(exists, "the build found a tree, and there is none");
+            assert!(holds_all(&tree.table_by_definition(n), table), "the built tree lacks a triplet");
+            assert!(tree.species() == all(n) && tree == tree.sorted());
+        }
+        Err(set) => {
+            assert!(!exists, "the build stopped, and there is a tree");
+            // the triplets inside the stopping set alone show it
+            let mut inside = table.to_vec();
+            for (place, (a, b, c)) in triples(n).enumerate() {
+                if !(has(set, a) && has(set, b) && has(set, c)) {
+                    inside[place] = 0;
+                }
+            }
+            assert!(!tables_of_all_trees(n).iter().any(|says| holds_all(says, &inside)));
+        }
+    }
+    exists
+}
+
+/// Whether what a tree says has every triplet of a table.
+fn holds_all(says: &[u8], table: &[u8]) -> bool {
+    says.iter().zip(table).all(|(s, t)| t & !s == 0)
+}

@@ -1,0 +1,232 @@
+//! The second program: the six operations of document 01 once more, in the plainest way, and the
+//! comparison of the proved programs with it. README.md says how to run it.
+
+mod calls;
+mod collections;
+mod compare;
+mod entered;
+mod exhaustive;
+mod inputs;
+mod named;
+mod operations;
+mod programs;
+mod protocol;
+mod random;
+mod shelf;
+mod trees;
+mod triples;
+
+use std::io::{Read, Write};
+use std::path::PathBuf;
+use std::process::ExitCode;
+use std::time::Instant;
+
+use compare::{shown, Comparison, Counts};
+use inputs::Inputs;
+use programs::{Feed, Program, Programs};
+
+/// What the gate runs.
+const CALLS: u64 = 100_000;
+const SEED: u64 = 1;
+
+/// Every number that each operation has, and every fault.
+const NUMBERS: [(char, &str, &[u8]); 6] = [
+    ('r', "read", &[0, 1, 2, 3, 4, 5, 6]),
+    ('l', "list", &[0, 1, 2, 3, 4, 5, 6, 7]),
+    ('e', "enter", &[0, 2, 7, 13]),
+    ('o', "order", &[0, 2, 5, 6, 9]),
+    ('b', "build", &[0, 2, 7, 8, 9, 10]),
+    ('c', "check", &[0, 2, 5, 6, 7, 8, 11, 12]),
+];
+const FAULTS: [&str; 4] = ["parent", "species", "seen", "only"];
+
+fn main() -> ExitCode {
+    let words: Vec<String> = std::env::args().skip(1).collect();
+    match words.first().map(String::as_str) {
+        Some("answer") if words.len() == 1 => write(&calls::lines(&input())),
+        Some("shelf") if words.len() == 1 => write(shelf::shelf(&input()).as_bytes()),
+        Some("named") if words.len() == 1 => match named::alone() {
+            0 => ExitCode::SUCCESS,
+            _ => ExitCode::FAILURE,
+        },
+        Some("compare") => compare(&words[1..]),
+        _ => usage(),
+    }
+}
+
+fn usage() -> ExitCode {
+    eprintln!("second answer < CALLS       the lines that trial has to write");
+    eprintln!("second shelf < COLLECTION   what shelf has to write");
+    eprintln!("second named                the runs by name, without the proved programs");
+    eprintln!("second compare [--calls N] [--seed S] [--trial FILE] [--shelf FILE] -- [WORDS]");
+    eprintln!("                            compares target/bin/trial and target/bin/shelf, which");
+    eprintln!("                            WORDS run; .ci/compare/second calls it");
+    ExitCode::from(2)
+}
+
+fn input() -> Vec<u8> {
+    let mut bytes = Vec::new();
+    std::io::stdin().read_to_end(&mut bytes).expect("standard input can be read");
+    bytes
+}
+
+fn write(bytes: &[u8]) -> ExitCode {
+    match std::io::stdout().write_all(bytes) {
+        Ok(()) => ExitCode::SUCCESS,
+        Err(_) => ExitCode::FAILURE,
+    }
+}
+
+fn compare(words: &[String]) -> ExitCode {
+    let (mut calls, mut seed, mut again) = (CALLS, SEED, Vec::new());
+    let mut words = words.iter();
+    while let Some(word) = words.next() {
+        if word == "--" {
+            break;
+        }
+        let value = words.next();
+        match (word.as_str(), value, value.and_then(|v| v.parse().ok())) {
+            ("--calls", _, Some(number)) => calls = number,
+            ("--seed", _, Some(number)) => seed = number,
+            ("--trial", Some(file), _) => again.push((Program::Trial, file.clone())),
+            ("--shelf", Some(file), _) => again.push((Program::Shelf, file.clone())),
+            _ => return usage(),
+        }
+    }
+    let programs = Programs { words: words.cloned().collect() };
+    if again.is_empty() {
+        compare_all(programs, calls, seed)
+    } else {
+        compare_again(&programs, &again)
+    }
+}
+
+/// One input once more: what the program writes and what this one says.
+fn compare_again(programs: &Programs, again: &[(Program, String)]) -> ExitCode {
+    let mut differ = 0;
+    for (program, file) in again {
+        let input = match std::fs::read(file) {
+            Ok(input) => input,
+            Err(error) => {
+                eprintln!("second: {file}: {error}");
+                return ExitCode::from(2);
+            }
+        };
+        let says = match program {
+            Program::Trial => calls::lines(&input),
+            Program::Shelf => shelf::shelf(&input).into_bytes(),
+        };
+        let run = programs.run(*program, input, Feed::Whole);
+        println!("{} writes:\n{}", program.name(), shown(&run.wrote));
+        if let Some(trouble) = &run.trouble {
+            println!("{} {trouble}", program.name());
+        }
+        println!("the second program says:\n{}", shown(&says));
+        if run.trouble.is_some() || run.wrote != says {
+            differ += 1;
+        }
+    }
+    println!("second: {} inputs, {differ} differ", again.len());
+    if differ == 0 {
+        ExitCode::SUCCESS
+    } else {
+        ExitCode::FAILURE
+    }
+}
+
+fn compare_all(programs: Programs, calls: u64, seed: u64) -> ExitCode {
+    let folder = PathBuf::from("target/second");
+    if let Ok(files) = std::fs::read_dir(&folder) {
+        for file in files.flatten() {
+            if file.file_name().to_string_lossy().starts_with("counterexample-") {
+                let _ = std::fs::remove_file(file.path());
+            }
+        }
+    }
+    let mut comparison = Comparison::new(programs, folder);
+
+    part(&mut comparison, "by name", named::compare);
+    part(&mut comparison, "trial, one run each", |c| {
+        c.runs(Program::Trial, &protocol::cases(seed));
+    });
+    part(&mut comparison, "shelf, one run each", |c| {
+        c.runs(Program::Shelf, &collections::cases(seed));
+    });
+    part(&mut comparison, "all tables and candidates up to n = 4", |c| {
+        c.calls(exhaustive::exhaustive);
+    });
+    let exhaustive = std::mem::take(&mut comparison.counts);
+    let mut made = (0, 0);
+    part(&mut comparison, "random calls", |c| {
+        c.calls(|push| {
+            let mut inputs = Inputs::new(seed);
+            let slow = if calls > CALLS { 100 } else { 20 };
+            for k in 0..calls {
+                // the slow checks are spread over all calls
+                let allowed = (slow * (k + 1)).div_ceil(calls.max(1));
+                if !push(inputs.call(allowed as usize)) {
+                    break;
+                }
+            }
+            made = inputs.made();
+        });
+    });
+    println!("second: among the random calls {} with more than 48 species, {} slow checks", made.1, made.0);
+
+    println!("second: how often each number came, among all up to n = 4 and among the random calls:");
+    let never = tell_counts(&exhaustive, &comparison.counts);
+    for what in &never {
+        println!("second: never came among the random calls: {what}");
+    }
+    println!("second: {} calls, {} differ (seed {seed})", comparison.compared, comparison.differ);
+    let met = never.is_empty() || calls < CALLS;
+    if comparison.differ == 0 && met {
+        ExitCode::SUCCESS
+    } else {
+        ExitCode::FAILURE
+    }
+}
+
+fn part(comparison: &mut Comparison, name: &str, run: impl FnOnce(&mut Comparison)) {
+    let began = Instant::now();
+    let (compared, differ) = (comparison.compared, comparison.differ);
+    run(comparison);
+    println!(
+        "second: {name}: {} compared, {} differ, {:.1} s",
+        comparison.compared - compared,
+        comparison.differ - differ,
+        began.elapsed().as_secs_f64()
+    );
+}
+
+/// Prints how often each number came; returns those that never did among the random calls.
+fn tell_counts(exhaustive: &Counts, random: &Counts) -> Vec<String> {
+    let mut never = Vec::new();
+    for (letter, name, numbers) in NUMBERS {
+        let mut line = format!("second:   {name:<5}");
+        for number in numbers {
+            let key = (letter, *number);
+            let often = random.numbers.get(&key).copied().unwrap_or(0);
+            let before = exhaustive.numbers.get(&key).copied().unwrap_or(0);
+            line.push_str(&format!("  {number}: {before} + {often}"));
+            if often == 0 {
+                never.push(format!("{name} {number}"));
+            }
+        }
+        println!("{line}");
+        if !numbers.contains(&6) {
+            continue;
+        }
+        let mut line = format!("second:   {name:<5}  of the 6:");
+        for fault in FAULTS {
+            let often = random.faults.get(&(letter, fault)).copied().unwrap_or(0);
+            let before = exhaustive.faults.get(&(letter, fault)).copied().unwrap_or(0);
+            line.push_str(&format!("  {fault}: {before} + {often}"));
+            if often == 0 {
+                never.push(format!("{name} 6 {fault}"));
+            }
+        }
+        println!("{line}");
+    }
+    never
+}

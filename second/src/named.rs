@@ -1,0 +1,370 @@
+//! Runs by name, each with its outcome written out by hand: those of document 01, and worked
+//! examples of its source papers.
+
+use crate::calls::Call;
+use crate::compare::{shown, split, Comparison};
+use crate::programs::{Feed, Program, Run};
+use crate::shelf::shelf;
+use crate::trees::Tree;
+
+struct Runs {
+    calls: Vec<(String, Call, String)>,
+    shelf: Vec<(String, Vec<u8>, String)>,
+}
+
+impl Runs {
+    fn call(&mut self, name: &str, call: Call, line: &str) {
+        self.calls.push((name.to_string(), call, line.to_string()));
+    }
+
+    /// A build in a room of exactly 4n - 2 bytes that hold 9.
+    fn build(&mut self, name: &str, n: usize, table: &[u8], line: &str) {
+        let room = vec![9; 4 * n - 2];
+        self.call(name, Call::Build { n: n as u64, table: table.to_vec(), room }, line);
+    }
+
+    fn check(&mut self, name: &str, n: usize, table: &[u8], body: &[u8], line: &str) {
+        let (table, body) = (table.to_vec(), body.to_vec());
+        self.call(name, Call::Check { n: n as u64, table, body }, line);
+    }
+
+    fn read(&mut self, name: &str, bytes: &[u8], line: &str) {
+        self.call(name, Call::Read { bytes: bytes.to_vec() }, line);
+    }
+
+    fn shelf(&mut self, name: &str, bytes: &[u8], output: &str) {
+        self.shelf.push((name.to_string(), bytes.to_vec(), output.to_string()));
+    }
+}
+
+/// The tree of a text such as ((0,1),2), species by one digit each.
+fn tree(text: &str) -> Tree {
+    fn at(text: &mut std::iter::Peekable<std::str::Chars>) -> Tree {
+        let first = text.next().expect("a tree");
+        if let Some(species) = first.to_digit(10) {
+            return Tree::Leaf(species as usize);
+        }
+        assert_eq!(first, '(');
+        let mut children = vec![at(text)];
+        while text.next_if_eq(&',').is_some() {
+            children.push(at(text));
+        }
+        assert_eq!(text.next(), Some(')'));
+        Tree::Inner(children)
+    }
+    at(&mut text.chars().peekable())
+}
+
+fn body(text: &str) -> Vec<u8> {
+    tree(text).house_order()
+}
+
+fn collection(n: usize, papers: &[&str]) -> Vec<u8> {
+    let mut bytes = vec![1, n as u8, papers.len() as u8];
+    for paper in papers {
+        let body = body(paper);
+        bytes.extend([0, body.len() as u8]);
+        bytes.extend(body);
+    }
+    bytes
+}
+
+/// The body that document 01 gives for n = 4 and table 1 0 0 1.
+const NESTED: [u8; 14] = [255, 255, 0, 255, 1, 255, 2, 0, 2, 1, 1, 2, 0, 3];
+
+/// ((0,1),2) and the fan of three.
+const CHERRY: [u8; 10] = [255, 255, 0, 255, 1, 0, 1, 1, 0, 2];
+const FAN: [u8; 8] = [255, 255, 0, 0, 0, 1, 0, 2];
+
+fn document_01(runs: &mut Runs) {
+    runs.build("n=1, empty table", 1, &[], "0 1 | 255 0");
+    runs.build("n=2", 2, &[], "0 3 | 255 255 0 0 0 1");
+    runs.build("n=3, table 0", 3, &[0], "0 4 | 255 255 0 0 0 1 0 2 9 9");
+    runs.build("n=4, table 1 0 0 1", 4, &[1, 0, 0, 1], "0 7 | 255 255 0 255 1 255 2 0 2 1 1 2 0 3");
+    runs.check("n=4, table 1 0 0 1: the check passes that tree", 4, &[1, 0, 0, 1], &NESTED, "0");
+    runs.build("n=4, table 3 0 0 0", 4, &[3, 0, 0, 0], "10 7 | 9 9 9 9 9 9 9 9 9 9 9 9 9 9");
+    runs.build("n=4, table 1 2 0 1", 4, &[1, 2, 0, 1], "10 15 | 9 9 9 9 9 9 9 9 9 9 9 9 9 9");
+    runs.check("n=3, ((0,1),2), table 2", 3, &[2], &CHERRY, "11 0 2");
+    runs.check("n=3, ((0,1),2), table 3", 3, &[3], &CHERRY, "11 0 3");
+    runs.check("n=3, ((0,1),2), table 0", 3, &[0], &CHERRY, "12 0");
+    runs.check("n=3, ((0,1),2), table 1", 3, &[1], &CHERRY, "0");
+    runs.check("n=3, the fan, table 3", 3, &[3], &FAN, "0");
+    let only = vec![255, 255, 0, 0];
+    runs.read("body 255 255, 0 0, read", &[1, 1, 1, 0, 4, 255, 255, 0, 0], "6 0 0 only");
+    runs.call(
+        "body 255 255, 0 0, into house order",
+        Call::Order { n: 1, body: only.clone(), room: vec![9; 5] },
+        "6 0 0 only | 9 9 9 9 9",
+    );
+    runs.check("body 255 255, 0 0, checked", 3, &[0], &only, "6 0 0 only");
+
+    // n=6, after source document 000's example 4
+    let papers = ["((0,1),2)", "((0,1),(3,(4,5)))"];
+    row(
+        runs,
+        "n=6, ((0,1),2) and ((0,1),(3,(4,5)))",
+        6,
+        &papers,
+        &[1, 1, 0, 0, 1, 0, 0, 4, 4, 0, 1, 0, 0, 4, 4, 0, 4, 4, 0, 4],
+        Built::Tree(10, "255 255 0 255 1 0 1 1 0 2 0 255 5 3 5 255 7 4 7 5", "12 9"),
+    );
+    // 64 species and 65
+    let zeros = vec![0; 41_664];
+    let star: String = (0..64).map(|i| format!(" 0 {i}")).collect();
+    let behind = " 9".repeat(254 - 2 * 65);
+    let table = " 0".repeat(41_664);
+    runs.read("64 species, read", &[1, 64, 0], "0 64 0");
+    runs.read("65 species, read", &[1, 65, 0], "2");
+    let list = |n: u8| Call::List { bytes: vec![1, n, 0], table: vec![9; 41_664] };
+    runs.call("64 species, listed", list(64), &format!("0 64 0 |{table}"));
+    runs.call("65 species, listed", list(65), &format!("2 |{}", " 9".repeat(41_664)));
+    let enter = |n: u64| Call::Enter { n, records: vec![[61, 63, 62]], table: vec![9; 41_664] };
+    let last = format!("{}2", &table[..table.len() - 1]);
+    runs.call("64 species, entered 61 63|62", enter(64), &format!("0 64 |{last}"));
+    runs.call("65 species, entered", enter(65), &format!("2 |{}", " 9".repeat(41_664)));
+    let order = |n: u64| Call::Order { n, body: vec![255, 63], room: vec![9; 2] };
+    runs.call("64 species, into house order", order(64), "0 1 | 255 63");
+    runs.call("65 species, into house order", order(65), "2 | 9 9");
+    let build = |n: u64| Call::Build { n, table: zeros.clone(), room: vec![9; 254] };
+    runs.call("64 species, built", build(64), &format!("0 65 | 255 255{star}{behind}"));
+    runs.call("65 species, built", build(65), &format!("2 |{}", " 9".repeat(254)));
+    runs.check("64 species, checked", 64, &zeros, &[255, 63], "0");
+    runs.check("65 species, checked", 65, &zeros, &[255, 63], "2");
+
+    // 16 trees and 17
+    for (count, line, listed) in [(16, "0 3 16", "0 3 16 | 0"), (17, "2", "2 | 9")] {
+        let mut bytes = vec![1, 3, count];
+        for _ in 0..count {
+            bytes.extend([0, 2, 255, 2]);
+        }
+        runs.read(&format!("{count} trees, read"), &bytes, line);
+        let call = Call::List { bytes, table: vec![9] };
+        runs.call(&format!("{count} trees, listed"), call, listed);
+    }
+
+    // room of 14 bytes for n=4, and of 13
+    let build = |room: usize| Call::Build { n: 4, table: vec![0; 4], room: vec![9; room] };
+    runs.call("n=4, build room of 14 bytes", build(14), "0 5 | 255 255 0 0 0 1 0 2 0 3 9 9 9 9");
+    runs.call("n=4, build room of 13 bytes", build(13), "9 | 9 9 9 9 9 9 9 9 9 9 9 9 9");
+
+    // R is the entered triplets on triples that the candidate resolves, and no others
+    runs.check("n=4, table 0 0 0 3, ((0,1),2)", 4, &[0, 0, 0, 3], &CHERRY, "12 0");
+    runs.check("n=4, table 1 0 0 0, (((0,1),2),3)", 4, &[1, 0, 0, 0], &NESTED, "12 1");
+    runs.check("n=4, table 0 1 0 0, ((0,1,2),3)", 4, &[0, 1, 0, 0], &body("((0,1,2),3)"), "12 2");
+
+    // the program shelf
+    let mut example = vec![1, 4, 1, 0, 14];
+    example.extend(NESTED);
+    runs.shelf("the example of document 01", &example, "build 0 7\n255 255 0 255 1 255 2 0 2 1 1 2 0 3\ncheck 0\n");
+    runs.shelf("no byte", &[], "read 3 0 0\n");
+    runs.shelf("version 2", &[2, 4, 0], "read 1 0 0\n");
+    runs.shelf("65 species", &[1, 65, 0], "read 2 0 0\n");
+    runs.shelf("17 trees", &[1, 4, 17], "read 2 0 0\n");
+    runs.shelf("no trees, n=1", &[1, 1, 0], "build 0 1\n255 0\ncheck 0\n");
+    runs.shelf("no trees, n=2", &[1, 2, 0], "build 0 3\n255 255 0 0 0 1\ncheck 0\n");
+    let leaf = [0, 2, 255, 0];
+    let second = |more: &[u8]| [&[1, 4, 2], &leaf[..], more].concat();
+    runs.shelf("second tree's length cut", &second(&[0]), "read 3 1 0\n");
+    runs.shelf("second tree's body cut", &second(&[0, 2, 255]), "read 3 1 0\n");
+    runs.shelf("second tree of length 3", &second(&[0, 3]), "read 5 1 0\n");
+    runs.shelf("second tree with an only child", &second(&[0, 4, 255, 255, 0, 0]), "read 6 1 0\n");
+    runs.shelf("second tree with species 4", &second(&[0, 6, 255, 255, 0, 1, 0, 4]), "read 6 1 2\n");
+    runs.shelf("three bytes left over", &second(&[0, 2, 255, 0, 1, 2, 3]), "read 4 0 0\n");
+}
+
+/// What a build gives: the node count, the body and the check of it, or the stopping set.
+enum Built {
+    Tree(usize, &'static str, &'static str),
+    Stops(u64),
+}
+
+/// One collection: listed, built, its built tree checked, and all of it by shelf.
+fn row(runs: &mut Runs, name: &str, n: usize, papers: &[&str], table: &[u8], built: Built) {
+    let bytes = collection(n, papers);
+    let listed: String = table.iter().map(|byte| format!(" {byte}")).collect();
+    let call = Call::List { bytes: bytes.clone(), table: vec![9; table.len()] };
+    runs.call(&format!("{name}: list"), call, &format!("0 {n} {} |{listed}", papers.len()));
+    let build = format!("{name}: build");
+    match built {
+        Built::Tree(nodes, body, checked) => {
+            let behind = " 9".repeat(4 * n - 2 - 2 * nodes);
+            runs.build(&build, n, table, &format!("0 {nodes} | {body}{behind}"));
+            let body_bytes: Vec<u8> = body.split(' ').map(|number| number.parse().expect("a byte")).collect();
+            runs.check(&format!("{name}: check"), n, table, &body_bytes, checked);
+            runs.shelf(name, &bytes, &format!("build 0 {nodes}\n{body}\ncheck {checked}\n"));
+        }
+        Built::Stops(set) => {
+            let untouched = " 9".repeat(4 * n - 2);
+            runs.build(&build, n, table, &format!("10 {set} |{untouched}"));
+            runs.shelf(name, &bytes, &format!("build 10 {set}\n"));
+        }
+    }
+}
+
+/// The source papers' examples, their letters in order from 0.
+fn papers(runs: &mut Runs) {
+    row(
+        runs,
+        "papers 1, ((A,B),C) and ((B,C),D)",
+        4,
+        &["((0,1),2)", "((1,2),3)"],
+        &[1, 0, 0, 1],
+        Built::Tree(7, "255 255 0 255 1 255 2 0 2 1 1 2 0 3", "0"),
+    );
+
+    row(
+        runs,
+        "papers 2, ((A,B),E) and ((C,D),E)",
+        5,
+        &["((0,1),4)", "((2,3),4)"],
+        &[0, 0, 0, 0, 1, 0, 0, 0, 0, 1],
+        Built::Tree(8, "255 255 0 255 1 0 1 1 0 255 4 2 4 3 0 4", "12 0"),
+    );
+
+    let table = [0, 1, 1, 0];
+    row(
+        runs,
+        "papers 3, ((A,B),D) and ((A,C),D)",
+        4,
+        &["((0,1),3)", "((0,2),3)"],
+        &table,
+        Built::Tree(6, "255 255 0 255 1 0 1 1 1 2 0 3", "0"),
+    );
+    for resolved in ["(((0,1),2),3)", "(((0,2),1),3)", "(((1,2),0),3)"] {
+        runs.check(&format!("papers 3: check {resolved}"), 4, &table, &body(resolved), "12 0");
+    }
+
+    let table = [3, 2, 2, 2, 1, 1, 1, 0, 0, 0, 1, 1, 1, 0, 0, 0, 4, 4, 4, 0];
+    row(
+        runs,
+        "papers 4, (((A,C),B),(E,F)) and (((A,D),B),C)",
+        6,
+        &["(((0,2),1),(4,5))", "(((0,3),1),2)"],
+        &table,
+        Built::Stops(15),
+    );
+    for (candidate, line) in
+        [("((((0,3),1),2),(4,5))", "11 0 3"), ("((0,1,2,3),(4,5))", "12 7"), ("(((0,3),1,2),(4,5))", "0")]
+    {
+        runs.check(&format!("papers 4: check {candidate}"), 6, &table, &body(candidate), line);
+    }
+
+    let table = [1, 3, 3, 3];
+    row(
+        runs,
+        "papers 5, (((A,E),B),C) and (((A,B),C),E)",
+        4,
+        &["(((0,3),1),2)", "(((0,1),2),3)"],
+        &table,
+        Built::Stops(15),
+    );
+    runs.check("papers 5: check ((0,1),2)", 4, &table, &CHERRY, "0");
+
+    let table = [5, 1, 0, 0];
+    row(runs, "papers 6, ((A,B),C,X) and ((B,C),A)", 4, &["((0,1),2,3)", "((1,2),0)"], &table, Built::Stops(7));
+    runs.check("papers 6: check ((0,1,2),3)", 4, &table, &body("((0,1,2),3)"), "12 2");
+
+    let table = [1, 3, 6, 6, 3, 6, 6, 3, 3, 3, 5, 6, 6, 3, 3, 3, 5, 6, 6, 4];
+    row(
+        runs,
+        "papers 7, (((A,D),B),((C,F),E)) and (((A,E),(B,F)),(C,D))",
+        6,
+        &["(((0,3),1),((2,5),4))", "(((0,4),(1,5)),(2,3))"],
+        &table,
+        Built::Stops(63),
+    );
+    runs.check("papers 7: check ((0,1),2)", 6, &table, &CHERRY, "0");
+
+    row(
+        runs,
+        "papers 8, ((A,B),W) and ((A,B),(X,(Y,Z)))",
+        6,
+        &["((0,1),2)", "((0,1),(3,(4,5)))"],
+        &[1, 1, 0, 0, 1, 0, 0, 4, 4, 0, 1, 0, 0, 4, 4, 0, 4, 4, 0, 4],
+        Built::Tree(10, "255 255 0 255 1 0 1 1 0 2 0 255 5 3 5 255 7 4 7 5", "12 9"),
+    );
+}
+
+fn all_runs() -> Runs {
+    let mut runs = Runs { calls: Vec::new(), shelf: Vec::new() };
+    document_01(&mut runs);
+    papers(&mut runs);
+    runs
+}
+
+/// The first of a long line, for a reader.
+fn short(line: &str) -> String {
+    if line.len() <= 70 {
+        return line.to_string();
+    }
+    format!("{} ... ({} bytes)", &line[..60], line.len())
+}
+
+/// This program alone against the outcomes: how many it misses.
+pub fn alone() -> usize {
+    let runs = all_runs();
+    let mut missed = 0;
+    let mut tell = |name: &str, expected: &str, says: &str| {
+        let good = says == expected;
+        missed += usize::from(!good);
+        let verdict = if good { "ok" } else { "WRONG" };
+        println!("{name}: {}: {verdict}", short(says.trim_end()).replace('\n', " / "));
+    };
+    for (name, call, line) in &runs.calls {
+        tell(name, line, &call.answer().line);
+    }
+    for (name, input, output) in &runs.shelf {
+        tell(&format!("shelf, {name}"), output, &shelf(input));
+    }
+    missed
+}
+
+pub fn compare(comparison: &mut Comparison) {
+    let runs = all_runs();
+    let input: Vec<u8> = runs.calls.iter().flat_map(|(_, call, _)| call.bytes()).collect();
+    let run = comparison.programs.run(Program::Trial, input, Feed::Whole);
+    let wrote = split(&run.wrote);
+    for (k, (name, call, line)) in runs.calls.iter().enumerate() {
+        let expected = format!("{line}\n").into_bytes();
+        let own = format!("{}\n", call.answer().line).into_bytes();
+        let given = wrote.get(k).copied().unwrap_or_default();
+        tell(comparison, Program::Trial, name, &call.bytes(), &expected, &own, given);
+    }
+    if wrote.len() > runs.calls.len() || run.trouble.is_some() {
+        let input: Vec<u8> = runs.calls.iter().flat_map(|(_, call, _)| call.bytes()).collect();
+        comparison.differs(Program::Trial, "the named runs", &input, &run, b"");
+    }
+    let inputs: Vec<(Vec<u8>, Feed)> = runs.shelf.iter().map(|(_, input, _)| (input.clone(), Feed::Whole)).collect();
+    let given = comparison.programs.run_each(Program::Shelf, &inputs);
+    for ((name, input, output), run) in runs.shelf.iter().zip(&given) {
+        let own = shelf(input);
+        let (expected, own) = (output.as_bytes(), own.as_bytes());
+        tell(comparison, Program::Shelf, name, input, expected, own, &run.wrote);
+        if run.trouble.is_some() {
+            comparison.differs(Program::Shelf, name, input, run, expected);
+        }
+    }
+}
+
+fn tell(
+    comparison: &mut Comparison,
+    program: Program,
+    name: &str,
+    input: &[u8],
+    expected: &[u8],
+    own: &[u8],
+    given: &[u8],
+) {
+    comparison.compared += 1;
+    let good = given == expected && own == expected;
+    let seen = short(shown(given).trim_end()).replace('\n', " / ");
+    let verdict = if good { "ok" } else { "WRONG" };
+    println!("second: {}: {name}: {seen}: {verdict}", program.name());
+    if own != expected {
+        println!("second: the second program says {}", short(shown(own).trim_end()));
+    }
+    if !good {
+        let run = Run { wrote: given.to_vec(), trouble: None };
+        comparison.differs(program, name, input, &run, expected);
+    }
+}

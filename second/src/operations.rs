@@ -1,0 +1,262 @@
+//! The six operations (document 01, "Numbers handed back").
+
+use crate::entered::{some_tree_holds, Entered};
+use crate::trees::{broken_rule, Fault, Tree};
+use crate::triples::{all, choose, has, index, triples, triplets_on};
+
+#[derive(Clone, Debug, PartialEq, Eq)]
+pub enum Refusal {
+    Version,
+    Size,
+    Short { tree: usize },
+    LeftOver { count: usize },
+    BodyLength { tree: usize },
+    TreeRule { tree: usize, node: usize, fault: Fault },
+    TableLength,
+    TableByte { place: usize },
+    Room,
+    NoTree { set: u64 },
+    Contradicted { triple: usize, byte: u8 },
+    NotForced { triple: usize },
+    Record { record: usize },
+}
+
+impl Refusal {
+    pub fn number(&self) -> u8 {
+        match self {
+            Refusal::Version => 1,
+            Refusal::Size => 2,
+            Refusal::Short { .. } => 3,
+            Refusal::LeftOver { .. } => 4,
+            Refusal::BodyLength { .. } => 5,
+            Refusal::TreeRule { .. } => 6,
+            Refusal::TableLength => 7,
+            Refusal::TableByte { .. } => 8,
+            Refusal::Room => 9,
+            Refusal::NoTree { .. } => 10,
+            Refusal::Contradicted { .. } => 11,
+            Refusal::NotForced { .. } => 12,
+            Refusal::Record { .. } => 13,
+        }
+    }
+}
+
+pub struct Collection {
+    pub n: usize,
+    pub trees: Vec<Tree>,
+}
+
+fn size(n: u64) -> Result<usize, Refusal> {
+    if n == 0 || n > 64 {
+        Err(Refusal::Size)
+    } else {
+        Ok(n as usize)
+    }
+}
+
+fn table_length(n: usize, table: &[u8]) -> Result<(), Refusal> {
+    if table.len() == choose(n, 3) {
+        Ok(())
+    } else {
+        Err(Refusal::TableLength)
+    }
+}
+
+fn table_bytes(table: &[u8]) -> Result<(), Refusal> {
+    match table.iter().position(|&byte| byte > 7) {
+        Some(place) => Err(Refusal::TableByte { place }),
+        None => Ok(()),
+    }
+}
+
+fn body_length(tree: usize, length: usize) -> Result<(), Refusal> {
+    if length == 0 || length % 2 == 1 || length > 254 {
+        Err(Refusal::BodyLength { tree })
+    } else {
+        Ok(())
+    }
+}
+
+fn tree_of(tree: usize, n: usize, body: &[u8]) -> Result<Tree, Refusal> {
+    match broken_rule(n, body) {
+        Some((node, fault)) => Err(Refusal::TreeRule { tree, node, fault }),
+        None => Ok(Tree::from_body(body)),
+    }
+}
+
+/// Reads a collection.
+pub fn read(bytes: &[u8]) -> Result<Collection, Refusal> {
+    if bytes.is_empty() {
+        return Err(Refusal::Short { tree: 0 });
+    }
+    if bytes[0] != 1 {
+        return Err(Refusal::Version);
+    }
+    if bytes.len() < 3 {
+        return Err(Refusal::Short { tree: 0 });
+    }
+    let n = size(bytes[1] as u64)?;
+    let count = bytes[2] as usize;
+    if count > 16 {
+        return Err(Refusal::Size);
+    }
+    let mut rest = &bytes[3..];
+    let mut trees = Vec::new();
+    for tree in 0..count {
+        if rest.len() < 2 {
+            return Err(Refusal::Short { tree });
+        }
+        let length = rest[0] as usize * 256 + rest[1] as usize;
+        rest = &rest[2..];
+        body_length(tree, length)?;
+        if rest.len() < length {
+            return Err(Refusal::Short { tree });
+        }
+        trees.push(tree_of(tree, n, &rest[..length])?);
+        rest = &rest[length..];
+    }
+    if !rest.is_empty() {
+        return Err(Refusal::LeftOver { count: rest.len() });
+    }
+    Ok(Collection { n, trees })
+}
+
+/// Lists a collection's triplets into the lent table. Returns n and the tree count.
+pub fn list(bytes: &[u8], table: &mut [u8]) -> Result<(usize, usize), Refusal> {
+    let collection = read(bytes)?;
+    table_length(collection.n, table)?;
+    table.fill(0);
+    for tree in &collection.trees {
+        for (byte, says) in table.iter_mut().zip(tree.table(collection.n)) {
+            *byte |= says;
+        }
+    }
+    Ok((collection.n, collection.trees.len()))
+}
+
+/// Enters a list of triplets into the lent table. Returns n.
+pub fn enter(n: u64, records: &[[u8; 3]], table: &mut [u8]) -> Result<usize, Refusal> {
+    let n = size(n)?;
+    table_length(n, table)?;
+    for (record, &[x, y, z]) in records.iter().enumerate() {
+        let repeats = x == y || x == z || y == z;
+        if repeats || [x, y, z].iter().any(|&s| s as usize >= n) {
+            return Err(Refusal::Record { record });
+        }
+    }
+    table.fill(0);
+    for &[x, y, z] in records {
+        let mut three = [x as usize, y as usize, z as usize];
+        three.sort();
+        let [a, b, c] = three;
+        let third = z as usize;
+        for (bit, (_, _, other)) in triplets_on(a, b, c) {
+            if other == third {
+                table[index(a, b, c)] |= bit;
+            }
+        }
+    }
+    Ok(n)
+}
+
+/// Puts a body into house order, in the lent room. Returns the node count.
+pub fn order(n: u64, body: &[u8], room: &mut [u8]) -> Result<usize, Refusal> {
+    let n = size(n)?;
+    body_length(0, body.len())?;
+    let tree = tree_of(0, n, body)?;
+    if room.len() < body.len() {
+        return Err(Refusal::Room);
+    }
+    let ordered = tree.house_order();
+    assert_eq!(ordered.len(), body.len());
+    room[..ordered.len()].copy_from_slice(&ordered);
+    Ok(ordered.len() / 2)
+}
+
+/// Builds the tree of a table in the lent room. Returns the node count.
+pub fn build(n: u64, table: &[u8], room: &mut [u8]) -> Result<usize, Refusal> {
+    let n = size(n)?;
+    table_length(n, table)?;
+    table_bytes(table)?;
+    if room.len() < 4 * n - 2 {
+        return Err(Refusal::Room);
+    }
+    if n <= 5 {
+        some_tree_holds(n, table); // holds the build against all trees
+    }
+    match Entered::from_table(n, table).build(all(n)) {
+        Err(set) => Err(Refusal::NoTree { set }),
+        Ok(tree) => {
+            let body = tree.preorder();
+            room[..body.len()].copy_from_slice(&body);
+            Ok(body.len() / 2)
+        }
+    }
+}
+
+/// Checks a candidate against a table.
+pub fn check(n: u64, table: &[u8], body: &[u8]) -> Result<(), Refusal> {
+    let n = size(n)?;
+    table_length(n, table)?;
+    table_bytes(table)?;
+    body_length(0, body.len())?;
+    let candidate = tree_of(0, n, body)?;
+    let own = candidate.table(n);
+
+    // R: the entered triplets on triples that the candidate resolves
+    let mut r = table.to_vec();
+    for (byte, says) in r.iter_mut().zip(&own) {
+        if *says == 0 {
+            *byte = 0;
+        }
+    }
+
+    // PC: the candidate's triplets and R together can be held by one tree
+    let both: Vec<u8> = own.iter().zip(&r).map(|(x, y)| x | y).collect();
+    let pc = some_tree_holds(n, &both);
+    let contradicted = contradiction(&own, table);
+    assert_eq!(pc, contradicted.is_none(), "PC, over trees and bit by bit");
+    if let Some(triple) = contradicted {
+        return Err(Refusal::Contradicted { triple, byte: table[triple] });
+    }
+
+    // PI: R with either of the two other triplets can be held by no tree
+    let chain = Entered::from_table(n, &r);
+    let groups = candidate.groups();
+    for (triple, (a, b, c)) in triples(n).enumerate() {
+        if own[triple] == 0 {
+            continue;
+        }
+        for (bit, (x, y, z)) in triplets_on(a, b, c) {
+            if bit == own[triple] {
+                continue;
+            }
+            // The two groups just below the node where a, b and c meet: R never links two of
+            // that node's children, and xy|z links only these two.
+            let start = largest(&groups, x, y) | largest(&groups, y, x);
+            let by_chain = chain.rules_out(start, x, y, z);
+            if n <= 16 {
+                let before = r[triple];
+                r[triple] |= bit;
+                let none = !some_tree_holds(n, &r);
+                r[triple] = before;
+                assert_eq!(none, by_chain, "PI, by trees or builds and by the chain");
+            }
+            if !by_chain {
+                return Err(Refusal::NotForced { triple });
+            }
+        }
+    }
+    Ok(())
+}
+
+/// The first triple of which the candidate says something and the table something else.
+pub fn contradiction(own: &[u8], table: &[u8]) -> Option<usize> {
+    (0..own.len()).find(|&i| own[i] != 0 && table[i] & !own[i] != 0)
+}
+
+/// The largest group with x and without y.
+fn largest(groups: &[u64], x: usize, y: usize) -> u64 {
+    let those = groups.iter().filter(|&&g| has(g, x) && !has(g, y));
+    *those.max_by_key(|g| g.count_ones()).expect("the leaf of x has it")
+}

@@ -1,0 +1,247 @@
+//! Trees, their groups and what they say; bodies and the tree rules
+//! (document 01, "A tree's body and the collection" and "Triplets, links, building").
+
+use crate::triples::{all, choose, has, index, one, triples, triplets_on};
+
+#[derive(Clone, Debug, PartialEq, Eq)]
+pub enum Tree {
+    Leaf(usize),
+    Inner(Vec<Tree>),
+}
+
+impl Tree {
+    /// The set of all species in the tree.
+    pub fn species(&self) -> u64 {
+        match self {
+            Tree::Leaf(i) => one(*i),
+            Tree::Inner(children) => children.iter().fold(0, |set, t| set | t.species()),
+        }
+    }
+
+    /// The groups, leaves and root included. The root's is the first.
+    pub fn groups(&self) -> Vec<u64> {
+        let mut groups = vec![self.species()];
+        if let Tree::Inner(children) = self {
+            for child in children {
+                groups.extend(child.groups());
+            }
+        }
+        groups
+    }
+
+    /// What the tree says of each triple of n species, as a triplet table. "Some group has a and
+    /// b but not c" is asked of the smallest group that has a and b: the others hold it.
+    pub fn table(&self, n: usize) -> Vec<u8> {
+        let mut groups = self.groups();
+        groups.sort_by_key(|g| g.count_ones());
+        let here = self.species();
+        let mut smallest = vec![0u64; n * n];
+        for a in 0..n {
+            for b in 0..n {
+                if let Some(g) = groups.iter().find(|&&g| has(g, a) && has(g, b)) {
+                    smallest[a * n + b] = *g;
+                }
+            }
+        }
+        let mut table = vec![0; choose(n, 3)];
+        for (place, (a, b, c)) in triples(n).enumerate() {
+            if has(here, a) && has(here, b) && has(here, c) {
+                for (bit, (x, y, z)) in triplets_on(a, b, c) {
+                    if !has(smallest[x * n + y], z) {
+                        table[place] |= bit;
+                    }
+                }
+            }
+        }
+        table
+    }
+
+    /// The same, word by word: ab|c is held when some group has a and b but not c, and c is in
+    /// the tree too.
+    pub fn table_by_definition(&self, n: usize) -> Vec<u8> {
+        let groups = self.groups();
+        let mut table = vec![0; choose(n, 3)];
+        for (a, b, c) in triples(n) {
+            for (bit, (x, y, z)) in triplets_on(a, b, c) {
+                let held = groups.iter().any(|&g| has(g, x) && has(g, y) && !has(g, z)) && has(self.species(), z);
+                if held {
+                    table[index(a, b, c)] |= bit;
+                }
+            }
+        }
+        table
+    }
+
+    /// The same tree with the children of each node by their lowest species.
+    pub fn sorted(&self) -> Tree {
+        match self {
+            Tree::Leaf(i) => Tree::Leaf(*i),
+            Tree::Inner(children) => {
+                let mut children: Vec<Tree> = children.iter().map(Tree::sorted).collect();
+                children.sort_by_key(|t| t.species().trailing_zeros());
+                Tree::Inner(children)
+            }
+        }
+    }
+
+    /// The body with the nodes in preorder, the children as they stand.
+    pub fn preorder(&self) -> Vec<u8> {
+        fn put(tree: &Tree, parent: u8, body: &mut Vec<u8>) {
+            let own = (body.len() / 2) as u8;
+            match tree {
+                Tree::Leaf(i) => body.extend([parent, *i as u8]),
+                Tree::Inner(children) => {
+                    body.extend([parent, 255]);
+                    for child in children {
+                        put(child, own, body);
+                    }
+                }
+            }
+        }
+        let mut body = Vec::new();
+        put(self, 255, &mut body);
+        body
+    }
+
+    /// The body in house order.
+    pub fn house_order(&self) -> Vec<u8> {
+        self.sorted().preorder()
+    }
+
+    /// The tree of a body that keeps the tree rules.
+    pub fn from_body(body: &[u8]) -> Tree {
+        fn at(body: &[u8], node: usize) -> Tree {
+            let children = children_of(body, node);
+            if children.is_empty() {
+                Tree::Leaf(body[2 * node + 1] as usize)
+            } else {
+                Tree::Inner(children.into_iter().map(|child| at(body, child)).collect())
+            }
+        }
+        at(body, 0)
+    }
+}
+
+fn children_of(body: &[u8], node: usize) -> Vec<usize> {
+    (1..body.len() / 2).filter(|&child| body[2 * child] as usize == node).collect()
+}
+
+/// One fault with its own data.
+#[derive(Clone, Copy, Debug, PartialEq, Eq)]
+pub enum Fault {
+    Parent(u8),
+    Species(u8),
+    Seen(usize),
+    Only,
+}
+
+/// The tree rules, for a body of a good length: the node at fault and its fault, or none.
+pub fn broken_rule(n: usize, body: &[u8]) -> Option<(usize, Fault)> {
+    let nodes = body.len() / 2;
+    // parents of all nodes first
+    for node in 0..nodes {
+        let parent = body[2 * node];
+        let good = if node == 0 { parent == 255 } else { (parent as usize) < node };
+        if !good {
+            return Some((node, Fault::Parent(parent)));
+        }
+    }
+    // then node by node: bad species, seen before, only child
+    for node in 0..nodes {
+        let species = body[2 * node + 1];
+        let children = children_of(body, node);
+        if children.is_empty() {
+            if species as usize >= n {
+                return Some((node, Fault::Species(species)));
+            }
+            if let Some(earlier) = (0..node).find(|&e| body[2 * e + 1] == species) {
+                return Some((node, Fault::Seen(earlier)));
+            }
+        } else {
+            if species != 255 {
+                return Some((node, Fault::Species(species)));
+            }
+            if children.len() == 1 {
+                return Some((node, Fault::Only));
+            }
+        }
+    }
+    None
+}
+
+/// All rooted trees with exactly the species of the set, two or more children at each inner node.
+pub fn all_trees(set: u64) -> Vec<Tree> {
+    if set.count_ones() == 1 {
+        return vec![Tree::Leaf(set.trailing_zeros() as usize)];
+    }
+    let mut trees = Vec::new();
+    for parts in partitions(set) {
+        if parts.len() < 2 {
+            continue;
+        }
+        let mut choices: Vec<Vec<Tree>> = vec![Vec::new()];
+        for part in parts {
+            let below = all_trees(part);
+            choices = choices
+                .iter()
+                .flat_map(|chosen| {
+                    below.iter().map(move |t| {
+                        let mut longer = chosen.clone();
+                        longer.push(t.clone());
+                        longer
+                    })
+                })
+                .collect();
+        }
+        trees.extend(choices.into_iter().map(Tree::Inner));
+    }
+    trees
+}
+
+/// All ways to split a set into parts that are not empty, each part once.
+fn partitions(set: u64) -> Vec<Vec<u64>> {
+    if set == 0 {
+        return vec![Vec::new()];
+    }
+    let lowest = one(set.trailing_zeros() as usize);
+    let others = set & !lowest;
+    let mut ways = Vec::new();
+    // the lowest species with each set of others
+    for with in subsets(others) {
+        for mut way in partitions(others & !with) {
+            way.insert(0, lowest | with);
+            ways.push(way);
+        }
+    }
+    ways
+}
+
+/// All sets inside a set, the empty one included.
+pub fn subsets(set: u64) -> Vec<u64> {
+    let mut found = vec![0];
+    for i in crate::triples::members(set) {
+        for k in 0..found.len() {
+            found.push(found[k] | one(i));
+        }
+    }
+    found
+}
+
+/// What each tree on exactly n species says, for n up to 5.
+pub fn tables_of_all_trees(n: usize) -> &'static [Vec<u8>] {
+    use std::sync::OnceLock;
+    static TABLES: OnceLock<Vec<Vec<Vec<u8>>>> = OnceLock::new();
+    let tables = TABLES.get_or_init(|| {
+        let mut tables = vec![Vec::new()];
+        for n in 1..=5 {
+            let trees = all_trees(all(n));
+            assert_eq!(trees.len(), [1, 1, 4, 26, 236][n - 1]);
+            for tree in &trees {
+                assert_eq!(tree.table(n), tree.table_by_definition(n));
+            }
+            tables.push(trees.iter().map(|t| t.table_by_definition(n)).collect());
+        }
+        tables
+    });
+    &tables[n]
+}
