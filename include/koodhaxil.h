@@ -149,8 +149,8 @@ size_t koodhaxil_order(size_t n, const uint8_t *body, size_t body_length, uint8_
                        size_t values_length);
 
 /*
- * Builds a tree of all n species that holds every entered triplet, in house order, to the front of the room, which has 4n - 2 bytes or more. It is
- * refused with 10 exactly when there is no such tree.
+ * Builds Aho's tree of all n species: it holds every entered triplet, and has no group that these do not give. In house order, to the front of the
+ * room, which has 4n - 2 bytes or more. Refused with 10 exactly when no tree holds every entered triplet.
  * Refusals: 2, 7, 8, 9, 10.
  */
 size_t koodhaxil_build(size_t n, const uint8_t *table, size_t table_length, uint8_t *room, size_t room_length, size_t *values,

@@ -1,10 +1,24 @@
 // Tries the library on good and bad input. The answers of the fixed list are written out by hand from document 01; those of the random collections,
-// lists of records, bodies, tables and candidates, and of all small candidates, come from `plain`. What a call must leave alone holds a pattern
+// lists of records, bodies, tables and candidates, and of all small candidates, come from the second program (`second/`). What a call must leave alone holds a pattern
 // before it, and is compared after it.
 
 mod boundary;
 mod plain;
 mod shapes;
+
+// The second program's own modules.
+#[allow(dead_code)]
+#[path = "../../second/src/entered.rs"]
+mod entered;
+#[allow(dead_code)]
+#[path = "../../second/src/operations.rs"]
+mod operations;
+#[allow(dead_code)]
+#[path = "../../second/src/trees.rs"]
+mod trees;
+#[allow(dead_code)]
+#[path = "../../second/src/triples.rs"]
+mod triples;
 
 use plain::Told;
 use shapes::{body, candidates, collection, joined, shuffled, Dice, Shape, SEED, SHAPES};
@@ -879,7 +893,7 @@ fn small_candidates(tally: &mut Tally) {
         }
     }
     answers.show("checking");
-    tally.end_part("every candidate of up to 4 species and every table, against the second implementation");
+    tally.end_part("every candidate of up to 4 species and every table, against the second program");
 }
 
 // Every candidate of 5 species against every part of its own table. Anything else that is entered fails PC or is not in R, so PI meets no other R.
@@ -901,7 +915,7 @@ fn parts_of_own_tables(tally: &mut Tally) {
         }
     }
     answers.show("checking");
-    tally.end_part("every candidate of 5 species and every part of its own table, against the second implementation");
+    tally.end_part("every candidate of 5 species and every part of its own table, against the second program");
 }
 
 // A number of species. Most are small.
@@ -1000,7 +1014,7 @@ fn random_ones(tally: &mut Tally) {
         tally.call(kind, Call::List(&bytes, room), dice.below(MOST_VALUES + 1), &told, table.as_deref());
     }
     answers.show("listing");
-    tally.end_part(&format!("{COLLECTIONS} random collections, seed {SEED}, against the second implementation"));
+    tally.end_part(&format!("{COLLECTIONS} random collections, seed {SEED}, against the second program"));
 }
 
 // A good list of records. Most are short; of one or two species there is only the empty one.
@@ -1048,7 +1062,7 @@ fn random_lists(tally: &mut Tally) {
         tally.call(kind, Call::Enter(n, &records, room), dice.below(MOST_VALUES + 1), &told, table.as_deref());
     }
     answers.show("entering");
-    tally.end_part(&format!("{LISTS} random lists of records, seed {SEED}, against the second implementation"));
+    tally.end_part(&format!("{LISTS} random lists of records, seed {SEED}, against the second program"));
 }
 
 fn random_bodies(tally: &mut Tally) {
@@ -1071,7 +1085,7 @@ fn random_bodies(tally: &mut Tally) {
         tally.call(kind, Call::Order(n, &bytes, room), dice.below(MOST_VALUES + 1), &told, house.as_deref());
     }
     answers.show("house order");
-    tally.end_part(&format!("{BODIES} random bodies, seed {SEED}, against the second implementation"));
+    tally.end_part(&format!("{BODIES} random bodies, seed {SEED}, against the second program"));
 }
 
 // The table of these trees.
@@ -1164,7 +1178,7 @@ fn random_tables(tally: &mut Tally) {
     }
     answers.show("building");
     println!("  of 10, sets without some species: {below_all}");
-    tally.end_part(&format!("{TABLES} random tables, seed {SEED}, against the second implementation"));
+    tally.end_part(&format!("{TABLES} random tables, seed {SEED}, against the second program"));
 }
 
 // Listing one tree of every species and building gives the tree in house order.
@@ -1180,7 +1194,7 @@ fn random_trees(tally: &mut Tally) {
         let (list_told, table) = plain::list(&one, fitting(n));
         tally.call("the table of one tree", Call::List(&one, fitting(n)), MOST_VALUES, &list_told, table.as_deref());
         let table = table.unwrap();
-        assert_eq!(plain::build(n, &table, room).1, house, "the second implementation builds another tree");
+        assert_eq!(plain::build(n, &table, room).1, house, "the second program builds another tree");
         tally.call("the tree built again", Call::Build(n, &table, room), MOST_VALUES, &told, house.as_deref());
     }
     tally.end_part(&format!("{TREES} random trees of every species, seed {SEED}: listed, put in house order and built again"));
@@ -1240,7 +1254,7 @@ fn random_candidates(tally: &mut Tally) {
     }
     answers.show("checking");
     println!("  of 0, candidates with a triplet: {resolved}; of 12, not at the candidate's first triplet: {later}");
-    tally.end_part(&format!("{CANDIDATES} random candidates, seed {SEED}, against the second implementation"));
+    tally.end_part(&format!("{CANDIDATES} random candidates, seed {SEED}, against the second program"));
 }
 
 fn main() {

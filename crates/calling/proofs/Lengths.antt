@@ -7,12 +7,12 @@ use Rattle.bodies.specs.declared.Broken.{Broken}
 use Rattle.bodies.specs.declared.Fault.{Fault}
 use Rattle.bodies.specs.declared.Fault.the-variants.{BadParent, BadSpecies, SeenBefore, OnlyChild}
 use Rattle.answers.specs.Answers.{told, brokenValues}
+use Rattle.saying.specs.declared.Said as S
+use Rattle.saying.specs.Spoken.{spoken}
 use Rattle.writing.proofs.Digits.{decimal-few}
 use Rattle.writing.proofs.Spaced.{spaced-few}
 use Rattle.writing.specs.Texts.{decimal, spaced}
-use Rattle.calling.specs.declared.Said as S
-use Rattle.calling.specs.Lines.{faultText, toldText}
-use Rattle.calling.specs.Said.{saidText}
+use Rattle.calling.specs.Lines.{faultText, plainText, toldText}
 
 fault-few : (f : Fault) → length (faultText f) ≤ 29
 fault-few (BadParent p) = omega (arith, decimal-few p)
@@ -36,7 +36,7 @@ broken-few x =
       fault-few (x .fault),
     )
 
-pub said-few : (s : S.Said) → length (saidText s) ≤ 91
+pub said-few : (s : S.Said) → length (plainText (spoken s)) ≤ 91
 said-few (S.the-variants.Bare k) = omega (arith, length-append (decimal k) (spaced []), decimal-few k)
 said-few (S.the-variants.One k x) = omega (arith, length-append (decimal k) (spaced (x ∷ [])), decimal-few k, spaced-few (x ∷ []))
 said-few (S.the-variants.Two k x y) = omega (arith, length-append (decimal k) (spaced (x ∷ y ∷ [])), decimal-few k, spaced-few (x ∷ y ∷ []))

@@ -3,8 +3,11 @@ use mathlib.Core.List.{List, [], _∷_, _++_, append-assoc, append-nil}
 use mathlib.Core.Path.{_∙_, _≡_, ap, sym}
 use Prim.Native.Nat.{ℕ}
 use Rattle.answers.specs.Answers.{Told, Exact}
+use Rattle.saying.specs.declared.Said.{Said}
+use Rattle.saying.specs.Plain.{Plain, plain}
+use Rattle.saying.specs.Spoken.{spoken}
 use Rattle.writing.specs.Texts.{ended, spaced}
-use Rattle.calling.specs.Lines.{barred, toldText}
+use Rattle.calling.specs.Lines.{barred, plainText, toldText}
 
 -- ---- values behind the number
 
@@ -20,16 +23,23 @@ two-behind k x y = append-assoc k x y ∙ ap (λ (l : List ℕ). k ++ l) (one-be
 pub three-behind : (k x y z : List ℕ) → ((k ++ x) ++ y) ++ z ≡ k ++ (x ++ (y ++ (z ++ [])))
 three-behind k x y z = append-assoc (k ++ x) y z ∙ append-assoc k x (y ++ z) ∙ ap (λ (l : List ℕ). k ++ (x ++ l)) (one-behind y z)
 
+-- what is said is written as its equal is
+pub text-as : {s q : Said} → s ≡ q → plainText (spoken q) ≡ plainText (spoken s)
+text-as e = ap (λ (x : Said). plainText (spoken x)) (sym e)
+
 -- ---- the whole line
 
 pub barred-whole : (s l : List ℕ) → ((s ++ (32 ∷ 124 ∷ [])) ++ spaced l) ++ (10 ∷ []) ≡ ended (s ++ barred l)
 barred-whole s l = ap ended (append-assoc s (32 ∷ 124 ∷ []) (spaced l))
 
--- s says the answer r, which is a; the lent bytes are o′
-module _ {A : Type 0} (tell : A → Told) {r a : A} {s : List ℕ} where
-  pub bare-line : s ≡ toldText (tell r) → r ≡ a → ended s ≡ ended (toldText (tell a))
-  bare-line e p = ap ended (e ∙ ap (λ (x : A). toldText (tell x)) p)
+-- p is what is said of the answer r, which is a; the lent bytes are o′
+module _ {A : Type 0} (tell : A → Told) {r a : A} {p : Plain} where
+  said-text : p ≡ plain (tell r) → r ≡ a → plainText p ≡ toldText (tell a)
+  said-text e q = ap plainText e ∙ ap (λ (x : A). toldText (tell x)) q
 
-  pub barred-line : {o o′ : List ℕ} → s ≡ toldText (tell r) → Exact a o r o′ → ended (s ++ barred o′) ≡ ended (toldText (tell a) ++ barred o)
+  pub bare-line : p ≡ plain (tell r) → r ≡ a → ended (plainText p) ≡ ended (toldText (tell a))
+  bare-line e q = ap ended (said-text e q)
+
+  pub barred-line : {o o′ : List ℕ} → p ≡ plain (tell r) → Exact a o r o′ → ended (plainText p ++ barred o′) ≡ ended (toldText (tell a) ++ barred o)
   barred-line {o} {o′} e x =
-      ap (λ (w : List ℕ). ended (w ++ barred o′)) (e ∙ ap (λ (y : A). toldText (tell y)) (x .is)) ∙ ap (λ (l : List ℕ). ended (toldText (tell a) ++ barred l)) (x .holds)
+      ap (λ (w : List ℕ). ended (w ++ barred o′)) (said-text e (x .is)) ∙ ap (λ (l : List ℕ). ended (toldText (tell a) ++ barred l)) (x .holds)

@@ -5,7 +5,7 @@ use Prim.Native.Nat.{ℕ}
 use lib.ListN.{length}
 use Rattle.bodies.specs.declared.Fault.{Fault}
 use Rattle.bodies.specs.declared.Fault.the-variants.{BadParent, BadSpecies, SeenBefore, OnlyChild}
-use Rattle.answers.specs.Answers.{Value, species-count, tree-count, node-count, tree-number, node-number, rule-broken, left-over, first-place, stopping-set, triple-index, table-byte, first-record, Told}
+use Rattle.answers.specs.Answers.{Told}
 use Rattle.collections.specs.Reads.{readAnswer}
 use Rattle.collections.specs.Order.{answerTold}
 use Rattle.listing.specs.Lists.{listAnswer, listAfter, listTold}
@@ -14,6 +14,7 @@ use Rattle.entering.specs.Order.{enterTold}
 use Rattle.ordering.specs.Orders.{orderAnswer, orderAfter, orderTold}
 use Rattle.building.specs.Builds.{buildAnswer, buildAfter, buildTold}
 use Rattle.checking.specs.Checks.{checkAnswer, checkTold}
+use Rattle.saying.specs.Plain.{Item, plain-number, broken-rule, Plain, plain}
 use Rattle.writing.specs.Texts.{decimal, spaced, ended}
 
 -- a space, and the words parent, species, seen, only
@@ -36,28 +37,21 @@ faultText (BadSpecies s) = species-word ++ (32 ∷ decimal s)
 faultText (SeenBefore i) = seen-word ++ (32 ∷ decimal i)
 faultText OnlyChild = only-word
 
--- a value after a space
-abbrev pub valueText : Value → List ℕ
-valueText (species-count n) = 32 ∷ decimal n
-valueText (tree-count m) = 32 ∷ decimal m
-valueText (node-count k) = 32 ∷ decimal k
-valueText (tree-number k) = 32 ∷ decimal k
-valueText (node-number i) = 32 ∷ decimal i
-valueText (rule-broken f) = faultText f
-valueText (left-over k) = 32 ∷ decimal k
-valueText (first-place p) = 32 ∷ decimal p
-valueText (stopping-set s) = 32 ∷ decimal s
-valueText (triple-index i) = 32 ∷ decimal i
-valueText (table-byte x) = 32 ∷ decimal x
-valueText (first-record i) = 32 ∷ decimal i
+-- what is returned with a number, after a space
+abbrev pub itemText : Item → List ℕ
+itemText (plain-number x) = 32 ∷ decimal x
+itemText (broken-rule f) = faultText f
 
-abbrev pub valuesText : List Value → List ℕ
-valuesText [] = []
-valuesText (v ∷ l) = valueText v ++ valuesText l
+abbrev pub itemsText : List Item → List ℕ
+itemsText [] = []
+itemsText (i ∷ l) = itemText i ++ itemsText l
 
--- the number, and the values
+-- the number, and what is returned with it
+abbrev pub plainText : Plain → List ℕ
+plainText p = decimal (p .number) ++ itemsText (p .items)
+
 abbrev pub toldText : Told → List ℕ
-toldText t = decimal (t .number) ++ valuesText (t .values)
+toldText t = plainText (plain t)
 
 -- a space, a bar, and each byte after a space
 abbrev pub barred : List ℕ → List ℕ

@@ -16,7 +16,7 @@ enterTold BadCount = told 2 []
 enterTold BadTable = told 7 []
 enterTold (BadRecord i) = told 13 (first-record i ∷ [])
 
--- "a record repeats a species or has one not below n"
+-- "entered record repeats a species or has one not below n"
 abbrev pub wrongRecord : ℕ → List (List ℕ) → Bool
 wrongRecord n rs = ltb (firstBad n rs) (length rs)
 

@@ -10,7 +10,8 @@ ghost use Rattle.entering.specs.Order.{enterTold};
 ghost use Rattle.ordering.specs.Orders.{orderAnswer, orderAfter, orderTold};
 ghost use Rattle.building.specs.Builds.{buildAnswer, buildAfter, buildTold};
 ghost use Rattle.checking.specs.Checks.{checkAnswer, checkTold};
-ghost use Rattle.exports.specs.Codes.{faultCode, Handed};
+ghost use Rattle.saying.specs.Spoken.{spoken};
+ghost use Rattle.exports.specs.Codes.{faultCode, Lays, Handed};
 
 // A fault by two numbers.
 struct FaultCode {
@@ -44,31 +45,22 @@ fn put(values: &mut [usize], i: usize, x: usize)
     }
 }
 
-// Hands back an answer of reading.
-fn hand(a: collections::Answer, values: &mut [usize]) -> usize
-    ensures { λ r. ⌜ Handed (answerTold a) (now (values .entry)) r (now (values .exit)) ⌝ }
+// Lays down what is said of an answer: writes its values, and answers its number.
+fn lay(s: saying::Said, values: &mut [usize]) -> usize
+    ensures { λ r. ⌜ Lays (spoken s) (now (values .entry)) r (now (values .exit)) ⌝ }
 {
-    match a {
-        collections::Answer::Good(c) => {
-            put(values, 0, c.n);
-            put(values, 1, c.trees);
-            0
+    match s {
+        saying::Said::Bare(k) => k,
+        saying::Said::One(k, x) => {
+            put(values, 0, x);
+            k
         }
-        collections::Answer::BadVersion => 1,
-        collections::Answer::BadCounts => 2,
-        collections::Answer::EndsEarly(k) => {
-            put(values, 0, k);
-            3
+        saying::Said::Two(k, x, y) => {
+            put(values, 0, x);
+            put(values, 1, y);
+            k
         }
-        collections::Answer::LeftOver(k) => {
-            put(values, 0, k);
-            4
-        }
-        collections::Answer::BadLength(k) => {
-            put(values, 0, k);
-            5
-        }
-        collections::Answer::BadTree(x) => {
+        saying::Said::Broken(x) => {
             let fault = x.fault;
             let f = fault_code(fault);
             put(values, 0, x.tree);
@@ -85,7 +77,7 @@ fn hand(a: collections::Answer, values: &mut [usize]) -> usize
 pub extern "C" fn koodhaxil_read(b: &[u8], values: &mut [usize]) -> usize
     ensures { λ r. ⌜ Handed (answerTold (readAnswer (now (b .entry)))) (now (values .entry)) r (now (values .exit)) ⌝ }
 {
-    hand(collections::read(b), values)
+    lay(saying::read(collections::read(b)), values)
 }
 
 // Lists a collection into the table t. A refusal leaves every byte of t as it was.
@@ -95,11 +87,7 @@ pub extern "C" fn koodhaxil_list(b: &[u8], t: &mut [u8], values: &mut [usize]) -
     ensures { λ _. ⌜ now (t .exit) ≡ listAfter (now (b .entry)) (now (t .entry)) ⌝ }
 {
     let a = listing::list(b, t);
-    match a {
-        listing::Answer::Listed(c) => hand(collections::Answer::Good(c), values),
-        listing::Answer::Unread(x) => hand(x, values),
-        listing::Answer::BadTable => 7,
-    }
+    lay(saying::list(a), values)
 }
 
 // Enters records of three numbers into the table t. A refusal leaves every byte of t as it was.
@@ -114,18 +102,7 @@ pub extern "C" fn koodhaxil_enter(
     ensures { λ _. ⌜ now (t .exit) ≡ enterAfter n (now (records .entry)) (now (t .entry)) ⌝ }
 {
     let a = entering::enter(n, records, t);
-    match a {
-        entering::Answer::Done(e) => {
-            put(values, 0, e.n);
-            0
-        }
-        entering::Answer::BadCount => 2,
-        entering::Answer::BadTable => 7,
-        entering::Answer::BadRecord(i) => {
-            put(values, 0, i);
-            13
-        }
-    }
+    lay(saying::enter(a), values)
 }
 
 // Puts a tree in house order, to the front of the room. A refusal leaves every byte of the room as it was.
@@ -140,16 +117,7 @@ pub extern "C" fn koodhaxil_order(
     ensures { λ _. ⌜ now (room .exit) ≡ orderAfter n (now (body .entry)) (now (room .entry)) ⌝ }
 {
     let a = ordering::order(n, body, room);
-    match a {
-        ordering::Answer::Done(w) => {
-            put(values, 0, w.nodes);
-            0
-        }
-        ordering::Answer::BadCount => 2,
-        ordering::Answer::BadLength => hand(collections::Answer::BadLength(0), values),
-        ordering::Answer::BadTree(x) => hand(collections::Answer::BadTree(x), values),
-        ordering::Answer::ShortRoom => 9,
-    }
+    lay(saying::order(a), values)
 }
 
 // Builds the tree of the table t, to the front of the room. A refusal leaves every byte of the room as it was.
@@ -164,23 +132,7 @@ pub extern "C" fn koodhaxil_build(
     ensures { λ _. ⌜ now (room .exit) ≡ buildAfter n (now (t .entry)) (now (room .entry)) ⌝ }
 {
     let a = building::build(n, t, room);
-    match a {
-        building::Answer::Done(w) => {
-            put(values, 0, w.nodes);
-            0
-        }
-        building::Answer::BadCount => 2,
-        building::Answer::BadTable => 7,
-        building::Answer::BadByte(i) => {
-            put(values, 0, i);
-            8
-        }
-        building::Answer::ShortRoom => 9,
-        building::Answer::NoTree(s) => {
-            put(values, 0, s as usize);
-            10
-        }
-    }
+    lay(saying::build(a), values)
 }
 
 // Checks the tree of a body against the table t.
@@ -188,25 +140,5 @@ pub extern "C" fn koodhaxil_build(
 pub extern "C" fn koodhaxil_check(n: usize, t: &[u8], body: &[u8], values: &mut [usize]) -> usize
     ensures { λ r. ⌜ Handed (checkTold (checkAnswer n (now (t .entry)) (now (body .entry)))) (now (values .entry)) r (now (values .exit)) ⌝ }
 {
-    let a = checking::check(n, t, body);
-    match a {
-        checking::Answer::Passes => 0,
-        checking::Answer::BadCount => 2,
-        checking::Answer::BadTable => 7,
-        checking::Answer::BadByte(i) => {
-            put(values, 0, i);
-            8
-        }
-        checking::Answer::BadLength => hand(collections::Answer::BadLength(0), values),
-        checking::Answer::BadTree(x) => hand(collections::Answer::BadTree(x), values),
-        checking::Answer::Contradicted(x) => {
-            put(values, 0, x.index);
-            put(values, 1, x.byte as usize);
-            11
-        }
-        checking::Answer::Unforced(i) => {
-            put(values, 0, i);
-            12
-        }
-    }
+    lay(saying::check(checking::check(n, t, body)), values)
 }

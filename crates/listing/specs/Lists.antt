@@ -1,5 +1,5 @@
--- Listing a collection into a table. Document 01, "Numbers handed back": "Listing takes a collection and a table"; "On 0, listing and entering fill
--- the whole table"; "Listing: the collection's, then 7".
+-- Listing a collection into a table. Document 01: "Listing a collection sets exactly the bits that at least one of its trees holds, over all trees";
+-- "Listing: the collection's refusals, then 7"; "On 0, listing and entering fill the whole table".
 use mathlib.Core.Path.{_≡_}
 use mathlib.Core.Bool.{cond, false}
 use mathlib.Core.List.{List, [], _∷_, _++_}

@@ -66,6 +66,10 @@ demand3 = record {
   rebuilt = λ n b t o c f l room. full-rebuilt n b c f o room t l;
 }
 
+-- All three, of one and the same six operations.
+pub all-demands : Demand1 koodhaxil × Demand2 koodhaxil × Demand3 koodhaxil
+all-demands = (demand1, demand2, demand3)
+
 -- ---- The demands are of the code. Whatever meets the contract of a public function, an answer r and what was lent, now o, is what `koodhaxil` gives.
 
 pub read-is : (b : List ℕ) (r : Reading.Answer) → r ≡ readAnswer b → answerTold r ≡ koodhaxil .read b

@@ -11,11 +11,11 @@ use Rattle.sets.specs.Sets.{has, union, single}
 use Rattle.trees.specs.Triplets.{Triplets, different, only, both}
 use Rattle.tables.specs.Index.{C, index, low, mid, high}
 
--- "the table length is C(n,3)"
+-- "A triplet table has exactly C(n,3) bytes"
 abbrev pub fits : List ℕ → ℕ → Bool
 fits t n = eqb (length t) (C n 3)
 
--- refusal 7: a table of l bytes for n species, where "the table length is not C(n,3)"
+-- refusal 7: a table of l bytes for n species, where "table length is not C(n,3)"
 abbrev pub wrongRoom : ℕ → ℕ → Bool
 wrongRoom n l = not (eqb l (C n 3))
 

@@ -10,8 +10,8 @@ use Rattle.calling.proofs.build_line.Tie as tie
 build-requires : tie.Need-build-requires
 build-requires c κs = search needs
 
-build-said-requires : tie.Need-build-said-requires
-build-said-requires c κs = search needs
+build-requires-2 : tie.Need-build-requires-2
+build-requires-2 c κs = search needs
 
 put-barred-requires : tie.Need-put-barred-requires
 put-barred-requires c κs = search needs
@@ -28,14 +28,14 @@ returns c =
     let z = c .before .before in
     let s = z .before .before in
     let a = s .before .before .before .before in
-    (writes-as _ _ _ _ _ _ (barred-line buildTold (s .build-said .ensures) (a .build .ensures)) (z .put-barred .ensures), a .build .ensures .holds)
+    (writes-as _ _ _ _ _ _ (barred-line buildTold (s .build2 .ensures) (a .build .ensures)) (z .put-barred .ensures), a .build .ensures .holds)
 
 pub build-line-spec : {M : Type 1} → statement M
 build-line-spec =
     tie.close
     (tie.spec
     build-requires
-    build-said-requires
+    build-requires-2
     put-barred-requires
     same-length
     same-length-2

@@ -10,8 +10,8 @@ use Rattle.calling.proofs.enter_line.Tie as tie
 enter-requires : tie.Need-enter-requires
 enter-requires c κs = search needs
 
-enter-said-requires : tie.Need-enter-said-requires
-enter-said-requires c κs = search needs
+enter-requires-2 : tie.Need-enter-requires-2
+enter-requires-2 c κs = search needs
 
 put-barred-requires : tie.Need-put-barred-requires
 put-barred-requires c κs = search needs
@@ -28,14 +28,14 @@ returns c =
     let z = c .before .before in
     let s = z .before .before in
     let a = s .before .before .before .before in
-    (writes-as _ _ _ _ _ _ (barred-line enterTold (s .enter-said .ensures) (a .enter .ensures)) (z .put-barred .ensures), a .enter .ensures .holds)
+    (writes-as _ _ _ _ _ _ (barred-line enterTold (s .enter2 .ensures) (a .enter .ensures)) (z .put-barred .ensures), a .enter .ensures .holds)
 
 pub enter-line-spec : {M : Type 1} → statement M
 enter-line-spec =
     tie.close
     (tie.spec
     enter-requires
-    enter-said-requires
+    enter-requires-2
     put-barred-requires
     same-length
     same-length-2

@@ -10,8 +10,8 @@ use Rattle.calling.proofs.list_line.Tie as tie
 list-requires : tie.Need-list-requires
 list-requires c κs = search needs
 
-list-said-requires : tie.Need-list-said-requires
-list-said-requires c κs = search needs
+list-requires-2 : tie.Need-list-requires-2
+list-requires-2 c κs = search needs
 
 put-barred-requires : tie.Need-put-barred-requires
 put-barred-requires c κs = search needs
@@ -28,14 +28,14 @@ returns c =
     let z = c .before .before in
     let s = z .before .before in
     let a = s .before .before .before .before in
-    (writes-as _ _ _ _ _ _ (barred-line listTold (s .list-said .ensures) (a .list .ensures)) (z .put-barred .ensures), a .list .ensures .holds)
+    (writes-as _ _ _ _ _ _ (barred-line listTold (s .list2 .ensures) (a .list .ensures)) (z .put-barred .ensures), a .list .ensures .holds)
 
 pub list-line-spec : {M : Type 1} → statement M
 list-line-spec =
     tie.close
     (tie.spec
     list-requires
-    list-said-requires
+    list-requires-2
     put-barred-requires
     same-length
     same-length-2

@@ -10,8 +10,8 @@ use Rattle.calling.proofs.order_line.Tie as tie
 order-requires : tie.Need-order-requires
 order-requires c κs = search needs
 
-order-said-requires : tie.Need-order-said-requires
-order-said-requires c κs = search needs
+order-requires-2 : tie.Need-order-requires-2
+order-requires-2 c κs = search needs
 
 put-barred-requires : tie.Need-put-barred-requires
 put-barred-requires c κs = search needs
@@ -28,14 +28,14 @@ returns c =
     let z = c .before .before in
     let s = z .before .before in
     let a = s .before .before .before .before in
-    (writes-as _ _ _ _ _ _ (barred-line orderTold (s .order-said .ensures) (a .order .ensures)) (z .put-barred .ensures), a .order .ensures .holds)
+    (writes-as _ _ _ _ _ _ (barred-line orderTold (s .order2 .ensures) (a .order .ensures)) (z .put-barred .ensures), a .order .ensures .holds)
 
 pub order-line-spec : {M : Type 1} → statement M
 order-line-spec =
     tie.close
     (tie.spec
     order-requires
-    order-said-requires
+    order-requires-2
     put-barred-requires
     same-length
     same-length-2

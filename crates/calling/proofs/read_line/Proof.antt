@@ -10,8 +10,8 @@ use Rattle.calling.proofs.read_line.Tie as tie
 read-requires : tie.Need-read-requires
 read-requires c κs = search needs
 
-read-said-requires : tie.Need-read-said-requires
-read-said-requires c κs = search needs
+read-requires-2 : tie.Need-read-requires-2
+read-requires-2 c κs = search needs
 
 put-line-requires : tie.Need-put-line-requires
 put-line-requires c κs = search needs
@@ -24,8 +24,8 @@ unfolding readLine
 returns c =
     let z = c .before .before in
     let s = z .before in
-    writes-as _ _ _ _ _ _ (bare-line answerTold (s .read-said .ensures) (s .before .read .ensures)) (z .put-line .ensures)
+    writes-as _ _ _ _ _ _ (bare-line answerTold (s .read2 .ensures) (s .before .read .ensures)) (z .put-line .ensures)
 
 pub read-line-spec : {M : Type 1} → statement M
 read-line-spec =
-    tie.close (tie.spec read-requires read-said-requires put-line-requires same-length returns)
+    tie.close (tie.spec read-requires read-requires-2 put-line-requires same-length returns)

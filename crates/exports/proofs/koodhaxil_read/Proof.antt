@@ -1,16 +1,18 @@
--- What is handed back of the answer that was read. Assumes nothing.
-use mathlib.Core.Path.{ap}
+-- What is said of the answer of reading is handed back. Assumes nothing.
 use borrow.Author.Needs.{needs}
 use Rattle.collections.specs.Order.{answerTold}
-use Rattle.exports.proofs.Laying.{handed-by}
+use Rattle.exports.proofs.Laying.{handed}
 use Rattle.exports.proofs.koodhaxil_read.Statement.{statement}
 use Rattle.exports.proofs.koodhaxil_read.Tie as tie
 
 read-requires : tie.Need-read-requires
 read-requires c κs = search needs
 
-hand-requires : tie.Need-hand-requires
-hand-requires c κs = search needs
+read-requires-2 : tie.Need-read-requires-2
+read-requires-2 c κs = search needs
+
+lay-requires : tie.Need-lay-requires
+lay-requires c κs = search needs
 
 same-length : tie.Need-same-length
 same-length c = search needs
@@ -18,9 +20,9 @@ same-length c = search needs
 returns : tie.Need-returns
 returns c =
     let h = c .before .before in
-    let r = h .before .before in
-    let o = r .before .before .before .args .values .now in
-    handed-by o (ap answerTold (r .read .ensures)) (h .hand .ensures)
+    let s = h .before .before in
+    handed answerTold _ (s .read2 .ensures) (s .before .read .ensures) (h .lay .ensures)
 
 pub koodhaxil-read-spec : {M : Type 1} → statement M
-koodhaxil-read-spec = tie.close (tie.spec read-requires hand-requires same-length returns)
+koodhaxil-read-spec =
+    tie.close (tie.spec read-requires read-requires-2 lay-requires same-length returns)

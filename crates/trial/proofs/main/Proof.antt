@@ -11,19 +11,19 @@ zeros : (n : ℕ) → length (replicate {A = ℕ} n 0) ≡ n
 zeros n = length-replicate {A = ℕ} n 0
 
 slice-aggregate-answer : tie.Need-slice-aggregate-answer
-slice-aggregate-answer c = search needs
+slice-aggregate-answer c = sym (zeros 65536)
 
 slice-aggregate-answer-2 : tie.Need-slice-aggregate-answer-2
-slice-aggregate-answer-2 c = search needs
+slice-aggregate-answer-2 c = sym (zeros 65536)
 
 slice-aggregate-answer-3 : tie.Need-slice-aggregate-answer-3
-slice-aggregate-answer-3 c = search needs
+slice-aggregate-answer-3 c = sym (zeros 65536)
 
 slice-aggregate-answer-4 : tie.Need-slice-aggregate-answer-4
-slice-aggregate-answer-4 c = search needs
+slice-aggregate-answer-4 c = sym (length-replicate 21845 (replicate {A = ℕ} 3 0))
 
 slice-aggregate-answer-5 : tie.Need-slice-aggregate-answer-5
-slice-aggregate-answer-5 c = search needs
+slice-aggregate-answer-5 c = sym (zeros 524288)
 
 answer-requires : tie.Need-answer-requires
 answer-requires c κs = (zeros 65536, zeros 65536, length-replicate 21845 (replicate {A = ℕ} 3 0), zeros 524288)
