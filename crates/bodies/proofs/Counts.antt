@@ -1,7 +1,7 @@
 -- Every node of good nodes stands in their tree: the tree has as many nodes, fewer than two a species. Assumes nothing.
 use mathlib.Core.Path.{_≡_, refl, sym, ap, ap₂, _∙_, subst}
 use mathlib.Core.List.{List}
-use Prim.Native.Nat.{ℕ, zero, suc, _+_, _-_, _*_, _≤_, _<_}
+use Prim.Native.Nat.{ℕ, zero, suc, _+_, _-_, _<_}
 use native.Mathlib.Decide.{ℕ-discrete}
 use native.Mathlib.Omega.{arith}
 use borrow.Author.Tests.{eq-eqb, ne-eqb}
@@ -9,8 +9,6 @@ use Rattle.trees.specs.Trees.{Forest, nil, cons}
 use Rattle.bodies.specs.Nodes.{Nodes, among, children, Good}
 use Rattle.bodies.specs.Draws.{forestOf, grow, subtree, nodeCount, nodeCountF}
 use Rattle.bodies.proofs.Under.{children-after, subtree-eq}
-use Rattle.bodies.proofs.Drawn.{tree-below, tree-formed}
-use Rattle.bodies.proofs.Back.{leaves-few, nodes-few}
 
 -- f 0 + .. + f (n - 1)
 abbrev sum : (ℕ → ℕ) → ℕ → ℕ
@@ -75,8 +73,3 @@ module _ (n : ℕ) (v : Nodes) (g : Good n v) where
 
   pub all-nodes : 0 < v .count → nodeCount (subtree v 0) ≡ v .count
   all-nodes h = omega (arith, weight-full (v .count - 1) 0 (omega arith), all (v .count - 1) 1 (omega arith) (omega arith))
-
-  pub count-few : 0 < v .count → v .count + 1 ≤ 2 * n
-  count-few h =
-      let w = tree-formed n v g h in
-      omega (arith, all-nodes h, nodes-few (subtree v 0) w, leaves-few n (subtree v 0) w (tree-below n v g h))

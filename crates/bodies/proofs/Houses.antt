@@ -10,7 +10,7 @@ use lib.ListN.{length}
 use Rattle.sets.specs.Species.{Below}
 use Rattle.trees.proofs.Theorems.{HouseOrder, house-order, known-by-house}
 use Rattle.trees.specs.Trees.{SameGroups, house, under, wellFormed}
-use Rattle.bodies.proofs.Back.{body-back, body-badLength, body-count, body-good, body-length}
+use Rattle.bodies.proofs.Back.{body-back, body-badLength, body-good, body-length}
 use Rattle.bodies.proofs.Counts.{all-nodes}
 use Rattle.bodies.proofs.Drawn.{tree-below, tree-formed}
 use Rattle.bodies.proofs.Housed.{house-count}
@@ -43,9 +43,6 @@ module _ (n : ℕ) (small : n ≤ 64) where
 
     house-nodes : nodeCount (house (treeOf b)) ≡ nodes b .count
     house-nodes = house-count (treeOf b) ∙ all-nodes n (nodes b) g some-node
-
-    pub ordered-count : nodes (ordered b) .count ≡ nodes b .count
-    ordered-count = body-count (house (treeOf b)) ∙ house-nodes
 
     pub ordered-length : length (ordered b) ≡ length b
     ordered-length = omega (arith, body-length (house (treeOf b)), house-nodes, length-good (length b) l)

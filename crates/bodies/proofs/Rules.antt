@@ -10,10 +10,9 @@ use borrow.Author.Tests.{eq-eqb, eqb-false, eqb-true, le-ltb, lt-ltb, ltb-false,
 use lib.Dec.{eqb, eqb·suc-zero, ltb}
 use lib.ListN.{length}
 use Rattle.sets.proofs.Bools.{and-i, and-l, and-r, ne-e, or-none, test}
-use Rattle.bodies.specs.Faults.{breaks, fault, first, innerFault, leafFault, nodeFault, orElse, parentFault, rightParent, seen}
+use Rattle.bodies.specs.Faults.{fault, first, nodeFault, orElse, parentFault, seen}
 use Rattle.bodies.specs.Nodes.{Good, Nodes, among, badLength, children}
 use Rattle.bodies.specs.declared.Broken.{Broken}
-use Rattle.bodies.specs.declared.Fault.the-variants.{BadParent}
 use Rattle.bodies.specs.declared.Verdict.{Verdict}
 use Rattle.bodies.specs.declared.Verdict.the-variants.{Breaks, Fine}
 
@@ -111,41 +110,6 @@ pub fine-first : (f : ℕ → Verdict) (m i : ℕ) → ((j : ℕ) → i ≤ j �
 unfolding first
 fine-first f zero i h = refl
 fine-first f (suc m) i h = rw (h i (omega arith) (omega arith)) (fine-first f m (suc i) (λ j l lt. h j (omega arith) (omega arith)))
-
--- ---- a fault names the tree, and a node of it
-
-abbrev Within : ℕ → ℕ → Verdict → Type 0
-Within k c Fine = Unit {0}
-Within k c (Breaks b) = (b .tree ≡ k) × (b .node < c)
-
-cond-within : (k c : ℕ) (b : Bool) (x y : Verdict) → Within k c x → Within k c y → Within k c (cond b x y)
-cond-within k c true x y p q = p
-cond-within k c false x y p q = q
-
-or-within : (k c : ℕ) (x y : Verdict) → Within k c x → Within k c y → Within k c (orElse x y)
-or-within k c Fine y p q = q
-or-within k c (Breaks b) y p q = p
-
-first-within : (k c : ℕ) (f : ℕ → Verdict) → ((i : ℕ) → i < c → Within k c (f i)) → (m i : ℕ) → i + m ≤ c → Within k c (first f m i)
-unfolding first
-first-within k c f h zero i l = tt
-first-within k c f h (suc m) i l = or-within k c (f i) (first f m (suc i)) (h i (omega arith)) (first-within k c f h m (suc i) (omega arith))
-
-module _ (k n : ℕ) (v : Nodes) where
-  parent-within : (i : ℕ) → i < v .count → Within k (v .count) (parentFault k v i)
-  parent-within i l = cond-within k (v .count) (rightParent v i) Fine (breaks k v i (BadParent (v .parent i))) tt (refl, l)
-
-  node-within : (i : ℕ) → i < v .count → Within k (v .count) (nodeFault k v n i)
-  node-within i l = cond-within k (v .count) (eqb (length (children v i)) 0) (leafFault k v n i) (innerFault k v i)
-      (cond-within k (v .count) (ltb (v .species i) n) _ _ (cond-within k (v .count) (ltb (seen v (v .species i) i 0) i) _ _ (refl, l) tt) (refl, l))
-      (cond-within k (v .count) (eqb (v .species i) 255) _ _ (cond-within k (v .count) (eqb (length (children v i)) 1) _ _ (refl, l) tt) (refl, l))
-
-  pub fault-tree : (b : Broken) → fault k v n ≡ Breaks b → (b .tree ≡ k) × (b .node < v .count)
-  unfolding fault
-  fault-tree b e = subst (λ (w : Verdict). Within k (v .count) w) e
-      (or-within k (v .count) (first (parentFault k v) (v .count) 0) (first (nodeFault k v n) (v .count) 0)
-      (first-within k (v .count) (parentFault k v) parent-within (v .count) 0 (omega arith))
-      (first-within k (v .count) (nodeFault k v n) node-within (v .count) 0 (omega arith)))
 
 -- ---- no fault exactly when good
 

@@ -1,7 +1,7 @@
 -- How subtrees lie: the children of a node, the nodes under it, the tree at it without levels, and the species of that tree, which are those of the
 -- leaves under the node. Assumes nothing.
 use mathlib.Core.Path.{_≡_, refl, sym, ap, ap₂, _∙_, subst}
-use mathlib.Core.Logic.{_↔_, _⊎_, inl, inr, ⊎-elim}
+use mathlib.Core.Logic.{_⊎_, inl, inr, ⊎-elim}
 use mathlib.Core.Bool.{Bool, true, false, So, false≢true}
 use mathlib.Core.List.{List, [], _∷_, _++_, List·Memᴰ, List·Memᴰ·head, List·Memᴰ·tail, List·Memᴰ·not-nil, List·Memᴰ·cases-cons}
 use Prim.Native.Nat.{ℕ, zero, suc, _+_, _-_, _≤_, _<_}
@@ -167,10 +167,6 @@ module _ (n : ℕ) (v : Nodes) (g : Good n v) where
       let hp : p < v .count = omega (arith, child-later p j ch) in
       under-in i p x hp u (child-in p j x hp ch s)
 
-  pub leaf-in : (i x : ℕ) → Leaf v i x → So (under (subtree v i) x)
-  leaf-in i x q = under-in i (q .at) x (q .within) (q .under)
-      (subst (λ (t : Tree). So (under t x)) (sym (subtree-leaf (q .at) (q .within) (q .bare))) (eq-eqb (v .species (q .at)) x (q .species)))
-
   leaf-step : (i x : ℕ) → i < v .count → ((c : ℕ) → Child v i c → So (under (subtree v c) x) → Leaf v c x) → So (under (subtree v i) x) → Leaf v i x
   leaf-step i x h ih s = go (children v i) refl (subst (λ (t : Tree). So (under t x)) (subtree-eq i h) s)
     where
@@ -184,10 +180,6 @@ module _ (n : ℕ) (v : Nodes) (g : Good n v) where
 
   pub in-leaf : (i x : ℕ) → i < v .count → So (under (subtree v i) x) → Leaf v i x
   in-leaf i x = by-children (λ j. So (under (subtree v j) x) → Leaf v j x) (λ j. leaf-step j x) i
-
-  -- the group of a node: the species of the leaves under it
-  pub group-iff : (i x : ℕ) → i < v .count → So (under (subtree v i) x) ↔ Leaf v i x
-  group-iff i x h = (in-leaf i x h, leaf-in i x)
 
   leaf-small : (j : ℕ) → j < v .count → children v j ≡ [] → v .species j < n
   leaf-small j h e = g .outer j h (ap length e)

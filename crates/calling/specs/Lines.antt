@@ -1,5 +1,5 @@
--- The line of a call. Document 01, "Numbers handed back": the number, then what is returned with it, each after a space; where a table or a room was
--- lent, also after a refusal, a space, a bar, and its bytes as they are afterwards, each after a space. Every line ends with byte 10.
+-- The line of a call: document 01's number, then what its table lists with it, each after a space; where a table or a room was lent, also after a
+-- refusal, a space, a bar, and its bytes as they are afterwards, each after a space. A line ends with byte 10. (The form is ours: `second/README.md`.)
 use mathlib.Core.List.{List, [], _∷_, _++_}
 use Prim.Native.Nat.{ℕ}
 use lib.ListN.{length}

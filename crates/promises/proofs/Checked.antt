@@ -101,6 +101,7 @@ module _ (n : ℕ) (t : List ℕ) (T : Tree) (f : So (wellFormed T)) (bd : Below
       record {
         settled = inr (inl refl);
         passes = ((λ z. absurd (omega (arith, z))), λ h. absurd (h .0 (w .low) (w .mid) (w .high) (w .here)));
+        fails = ((λ z pc. none-contradicts pc (w .low) (w .mid) (w .high) (w .here)), λ no. refl);
         contradicted = λ z. (i, refl, w);
         unforced = λ z. absurd (omega (arith, z));
       }
@@ -110,6 +111,7 @@ module _ (n : ℕ) (t : List ℕ) (T : Tree) (f : So (wellFormed T)) (bd : Below
       record {
         settled = inr (inr refl);
         passes = ((λ z. absurd (omega (arith, z))), λ h. absurd (omega (arith, l, pi-first n t T f inside pc .0 (h .1))));
+        fails = ((λ z. absurd (omega (arith, z))), λ no. absurd (no pc));
         contradicted = λ z. absurd (omega (arith, z));
         unforced = λ z. (j, refl, none-contradicts pc, first-same n _ _ j (unsure-unforced pc) (first-triple n (unsure (entered t) n T) l));
       }
@@ -118,6 +120,7 @@ module _ (n : ℕ) (t : List ℕ) (T : Tree) (f : So (wellFormed T)) (bd : Below
       record {
         settled = inl refl;
         passes = ((λ z. (none-contradicts pc, pi-first n t T f inside pc .1 (ltb-false j (C n 3) q′))), λ h. refl);
+        fails = ((λ z. absurd (omega (arith, z))), λ no. absurd (no pc));
         contradicted = λ z. absurd (omega (arith, z));
         unforced = λ z. absurd (omega (arith, z));
       }

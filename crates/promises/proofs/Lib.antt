@@ -2,6 +2,7 @@
 pub mod Gives
 pub mod Kept
 pub mod Tabled
+pub mod Read
 pub mod Listed
 pub mod Entered
 pub mod Wrote

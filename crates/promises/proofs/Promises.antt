@@ -35,6 +35,7 @@ use Rattle.promises.proofs.Gives.{exact-gives}
 use Rattle.promises.proofs.Kept.{build-kept, enter-kept, list-kept, order-kept}
 use Rattle.promises.proofs.Listed.{good-listed}
 use Rattle.promises.proofs.Ordered.{good-ordered}
+use Rattle.promises.proofs.Read.{good-read}
 use Rattle.promises.proofs.Rebuilt.{full-known, full-rebuilt}
 
 -- Every bad input gets the numbered refusal of the stated order, and a refused call leaves what was lent as it was.
@@ -48,10 +49,11 @@ demand1 = record {
   checking = check-demand1;
 }
 
--- The table has the bits of all trees, or of all records, and no others; house order keeps the groups; the builder gives Aho's tree, which holds every
+-- Reading answers 0 for collections alone; the table has the bits of all trees, or of all records, and no others; house order keeps the groups; the builder gives Aho's tree, which holds every
 -- triplet entered, and refuses exactly when no tree does; the check passes a tree exactly when nothing contradicts it and each of its triplets is forced.
 pub demand2 : Demand2 koodhaxil
 demand2 = record {
+  reading = good-read;
   listing = λ b t w l. good-listed b w t l;
   entering = λ n rs t c l g. good-entered n rs g c t l;
   ordering = λ n b o c g room. good-ordered n b c g o room;

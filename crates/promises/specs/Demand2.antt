@@ -10,7 +10,7 @@ use lib.ListN.{drop, getD, length, take}
 use Rattle.sets.specs.Sets.{has, size}
 use Rattle.sets.specs.Species.{Inside, Species, below}
 use Rattle.trees.specs.Aho.{AhoTree}
-use Rattle.trees.specs.Check.{Forced, PI, R, differs}
+use Rattle.trees.specs.Check.{Forced, PC, PI, R, differs}
 use Rattle.trees.specs.Held.{CanBeHeld, HeldBy}
 use Rattle.trees.specs.Links.{JoinedByWalks}
 use Rattle.trees.specs.Trees.{SameGroups, Tree, inHouseOrder}
@@ -23,7 +23,7 @@ use Rattle.answers.specs.Answers.{Told, node-count, species-count, stopping-set
 use Rattle.collections.specs.Collection.{Collection}
 use Rattle.collections.specs.Layout.{bodyAt, species, trees}
 use Rattle.entering.specs.Enters.{left, outer, right}
-use Rattle.promises.specs.Candidates.{Builder, Checker, Enterer, Given, Lister, Operations, Orderer}
+use Rattle.promises.specs.Candidates.{Builder, Checker, Enterer, Given, Lister, Operations, Orderer, Reader}
 
 -- ---- what is good input
 
@@ -50,6 +50,11 @@ pub record Triplet (n : ℕ) (r : List ℕ) : Type 0 where
   pub pair : left r ≢ right r
   pub left-outer : left r ≢ outer r
   pub right-outer : right r ≢ outer r
+
+-- ---- reading: 0 for what is a collection, and for nothing else
+
+abbrev pub ReadsAll : Reader → Type 0
+ReadsAll f = (b : List ℕ) → (f b .number ≡ 0) ↔ Collection b
 
 -- ---- listing: the bits of all trees
 
@@ -146,7 +151,7 @@ BuildsAll f = (n : ℕ) (t o : List ℕ) → Count n → Table n t → roomFor n
 abbrev pub Contradicts : Triplets → Tree → ℕ → ℕ → ℕ → Type 0
 Contradicts E T a b c = So (onTriple (differs E T) a b c)
 
--- T holds ab|c, and R together with one of the two other triplets can be held by some tree
+-- T holds ab|c, and it is not forced
 abbrev pub Loose : Triplets → Species → Tree → ℕ → ℕ → ℕ → Type 0
 Loose E S T a b c = So (holds T a b c) × (Forced (R E T) S a b c → ⊥)
 
@@ -168,6 +173,8 @@ pub record Checks (n : ℕ) (t : List ℕ) (S : Species) (T : Tree) (r : Told) :
   pub settled : (r .number ≡ 0) ⊎ ((r .number ≡ 11) ⊎ (r .number ≡ 12))
   -- no entered triplet contradicts T, and each triplet of T is forced
   pub passes : (r .number ≡ 0) ↔ (((a b c : ℕ) → Contradicts (entered t) T a b c → ⊥) × PI (entered t) S T)
+  -- "11 | PC fails": no tree holds the triplets of T and R together
+  pub fails : (r .number ≡ 11) ↔ (PC (entered t) S T → ⊥)
   pub contradicted : r .number ≡ 11 → (i : ℕ) × (r ≡ told 11 (triple-index i ∷ table-byte (getD t i 0) ∷ [])) × FirstTriple n (Contradicts (entered t) T) i
   pub unforced : r .number ≡ 12 → (i : ℕ) × (r ≡ told 12 (triple-index i ∷ [])) × ((a b c : ℕ) → Contradicts (entered t) T a b c → ⊥) × FirstTriple n (Unforced (entered t) S T) i
 
@@ -175,6 +182,7 @@ abbrev pub ChecksAll : Checker → Type 0
 ChecksAll f = (n : ℕ) (t b : List ℕ) → Count n → Table n t → Body n b → Checks n t (below n) (treeOf b) (f n t b)
 
 pub record Demand2 (L : Operations) : Type 0 where
+  pub reading : ReadsAll (L .read)
   pub listing : ListsAll (L .list)
   pub entering : EntersAll (L .enter)
   pub ordering : OrdersAll (L .order)

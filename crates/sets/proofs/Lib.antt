@@ -7,7 +7,6 @@ pub mod Sizes
 pub mod Least
 pub mod Ordered
 pub mod Forms
-pub mod Induct
 pub mod Zeros
 pub mod Facts
 pub mod Floods

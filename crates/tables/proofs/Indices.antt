@@ -206,11 +206,3 @@ module _ (a b c n : ℕ) (p : a < b) (q : b < c) (r : c < n) where
   pub low-of : lowAt n (index a b c) ≡ a
   unfolding lowAt index
   low-of = omega (arith, same-high high-of, same-mid mid-of)
-
--- more species than needed give the same triple
-pub triple-bound : (m n i : ℕ) → n ≤ m → i < C n 3 → (lowAt m i ≡ lowAt n i) × (midAt m i ≡ midAt n i) × (highAt m i ≡ highAt n i)
-triple-bound m n i le h =
-    let r = triple-back n i h in
-    let c : highAt n i < m = omega (arith, r .2) in
-    subst (λ (j : ℕ). (lowAt m j ≡ lowAt n i) × (midAt m j ≡ midAt n i) × (highAt m j ≡ highAt n i)) (r .3)
-    (low-of (lowAt n i) (midAt n i) (highAt n i) m (r .0) (r .1) c, mid-of (lowAt n i) (midAt n i) (highAt n i) m (r .0) (r .1) c, high-of (lowAt n i) (midAt n i) (highAt n i) m (r .0) (r .1) c)

@@ -43,13 +43,6 @@ over-end t i h = ap over (drop-of-length-le t h)
 
 -- ---- no byte is over the limit
 
-pub over-le : (t : List ℕ) → over t ≤ length t
-unfolding over
-over-le [] = omega arith
-over-le (v ∷ t) = test (ltb top v)
-    (λ h. omega (arith, over-yes v t (ltb-true top v h)))
-    (λ h. omega (arith, over-no v t (ltb-false top v (not-true (ltb top v) h)), over-le t))
-
 pub over-all : (t : List ℕ) → over t ≡ length t → (i : ℕ) → getD t i 0 ≤ top
 over-all [] e i = omega arith
 over-all (v ∷ t) e i = test (ltb top v)

@@ -19,10 +19,6 @@ pub everyF-map : (P Q : Tree → Type 0) → ((t : Tree) → P t → Q t) → (f
 everyF-map P Q g nil h = tt
 everyF-map P Q g (cons t f) h = (g t (h .0), everyF-map P Q g f (h .1))
 
-pub everyF-zip : (P Q : Tree → Type 0) (f : Forest) → EveryF P f → EveryF Q f → EveryF (λ t. P t × Q t) f
-everyF-zip P Q nil h k = tt
-everyF-zip P Q (cons t f) h k = ((h .0, k .0), everyF-zip P Q f (h .1) (k .1))
-
 -- how a child lies in its forest
 pub record Kid (F : Forest) (t : Tree) : Type 0 where
   pub formed : Formed t

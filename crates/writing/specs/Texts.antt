@@ -22,6 +22,6 @@ abbrev pub spaced : List ℕ → List ℕ
 spaced [] = []
 spaced (n ∷ l) = 32 ∷ (decimal n ++ spaced l)
 
--- "every line ends with byte 10"
+-- a line ends with byte 10
 abbrev pub ended : List ℕ → List ℕ
 ended l = l ++ (10 ∷ [])

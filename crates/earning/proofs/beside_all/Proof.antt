@@ -1,4 +1,4 @@
--- `checking::beside_all` meets its contract. The loop's invariant: node i's group is joined beside that of each sibling before j. Assumes nothing.
+-- `earning::beside_all` meets its contract. The loop's invariant: node i's group is joined beside that of each sibling before j. Assumes nothing.
 use mathlib.Core.Bool.{false≢true}
 use mathlib.Core.Logic.{⊎-elim}
 use mathlib.Core.Path.{_∙_, refl, sym}

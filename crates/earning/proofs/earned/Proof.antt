@@ -1,4 +1,4 @@
--- `checking::earned` meets its contract. The loop's invariant: the group of each node before i, the root aside, is joined beside that of each sibling.
+-- `earning::earned` meets its contract. The loop's invariant: the group of each node before i, the root aside, is joined beside that of each sibling.
 -- Assumes nothing.
 use mathlib.Core.Bool.{false≢true}
 use mathlib.Core.Logic.{⊎-elim}

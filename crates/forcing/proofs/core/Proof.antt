@@ -1,4 +1,4 @@
--- `checking::core` meets its contract. The loop's invariant: the chain came to x, and y is next; y lies in x, whatever the masks are. Assumes nothing.
+-- `forcing::core` meets its contract. The loop's invariant: the chain came to x, and y is next; y lies in x, whatever the masks are. Assumes nothing.
 use mathlib.Core.Bool.{So}
 use Prim.Native.Nat.{_<_, _^_}
 use native.Mathlib.Omega.{arith}

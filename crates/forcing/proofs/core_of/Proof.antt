@@ -1,4 +1,4 @@
--- `checking::core_of` meets its contract. Assumes nothing.
+-- `forcing::core_of` meets its contract. Assumes nothing.
 use mathlib.Core.Path.{_∙_}
 use borrow.Author.Needs.{needs}
 use lib.ListN.{length-set}

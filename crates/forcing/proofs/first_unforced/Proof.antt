@@ -1,4 +1,4 @@
--- `checking::first_unforced` meets its contract. The loops' invariants: every triple before the one at hand is forced. Assumes nothing.
+-- `forcing::first_unforced` meets its contract. The loops' invariants: every triple before the one at hand is forced. Assumes nothing.
 use mathlib.Core.Path.{refl}
 use Prim.Native.Nat.{_-_, _≤_}
 use native.Mathlib.Omega.{arith}

@@ -1,4 +1,4 @@
--- `checking::pair` meets its contract. Assumes nothing.
+-- `forcing::pair` meets its contract. Assumes nothing.
 use mathlib.Core.Path.{_∙_, ap}
 use native.Mathlib.Omega.{arith}
 use borrow.Author.Needs.{needs}

@@ -1,4 +1,4 @@
--- `checking::sure_at` meets its contract: in each arm one look decides. Assumes nothing.
+-- `forcing::sure_at` meets its contract: in each arm one look decides. Assumes nothing.
 use mathlib.Core.Bool.{not}
 use mathlib.Core.Path.{_∙_, ap}
 use native.Mathlib.Omega.{arith}
