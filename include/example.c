@@ -53,20 +53,6 @@ static void print_table(const uint8_t *table)
     printf("\n");
 }
 
-/* Prints the triple with an index. */
-static void print_triple(size_t index)
-{
-    int a, b, c;
-
-    for (c = 2; c < N; c++) {
-        for (b = 1; b < c; b++) {
-            for (a = 0; a < b; a++) {
-                if (KOODHAXIL_INDEX(a, b, c) == index) printf("(%d,%d,%d)", a, b, c);
-            }
-        }
-    }
-}
-
 static int unexpected(const char *what, size_t number)
 {
     printf("%s: unexpected answer %zu\n", what, number);
@@ -100,9 +86,9 @@ int main(void)
     /* What is built keeps everything that the papers say, and may say more than they do. */
     number = koodhaxil_check(N, table, sizeof table, tree, 2 * nodes, values, KOODHAXIL_VALUES);
     if (number != KOODHAXIL_UNFORCED) return unexpected("checking", number);
-    printf("check of that tree: refused with %zu, since the papers do not force what it says of ", number);
-    print_triple(values[0]);
-    printf("\n");
+    printf("check of that tree: refused with %zu at index %zu", number, values[0]);
+    if (!koodhaxil_triple(values[0], values, KOODHAXIL_VALUES)) return unexpected("triple", 0);
+    printf(", since the papers do not force what it says of (%zu,%zu,%zu)\n", values[0], values[1], values[2]);
 
     /* The first paper's tree alone, its children in another order: house order turns them, and the check passes it. */
     number = koodhaxil_order(N, (const uint8_t[]){ 255, 255, 0, 2, 0, 255, 2, 1, 2, 0 }, 10, again, sizeof again, values, KOODHAXIL_VALUES);

@@ -39,14 +39,15 @@
  * - What is lent for writing (a pointer that is not const) overlaps nothing else that is handed to the same call. What is only read may overlap.
  * - No other thread writes what is lent, or reads what is lent for writing, before the call returns. Calls that share no such memory may run at the
  *   same time.
- * - There is stack: on x86-64 some 98 KiB for checking, 53 for building, 34 for listing, and below 10 for the others.
+ * - There is stack: on x86-64 some 98 KiB for checking, 52 for building, 34 for listing, and below 10 for the others.
  *
  *
  * WHAT A FUNCTION ANSWERS
  *
- * Its result is one of the numbers below: 0 for done, any other for a refusal. What belongs to the number is laid into `values`, in the order that
- * is given here, from place 0 on, as far as there are places; what is behind it stays. KOODHAXIL_VALUES places are enough for every answer, and 0
- * places are allowed. Where several refusals apply, the answer is the first one in the order that stands at the function.
+ * The result of an operation is one of the numbers below: 0 for done, any other for a refusal. What belongs to the number is laid into `values`, in
+ * the order that is given here, from place 0 on, as far as there are places; what is behind it stays. KOODHAXIL_VALUES places are enough for every
+ * answer, and 0 places are allowed. Where several refusals apply, the answer is the first one in the order that stands at the function.
+ * koodhaxil_triple is no operation but a question, answered 1 for yes and 0 for no.
  *
  * A refusal changes no byte of a table or a room. On 0, listing and entering fill the whole table, whatever it held; house order and building write a
  * body to the front of the room and change nothing behind it.
@@ -105,7 +106,7 @@ enum koodhaxil_fault {
 #define KOODHAXIL_TABLE(n) ((size_t)(n) * ((size_t)(n) - 1) * ((size_t)(n) - 2) / 6)
 #define KOODHAXIL_ROOM(n) (4 * (size_t)(n) - 2)
 
-/* The index of the triple a < b < c: C(c,3) + C(b,2) + a. */
+/* The index of the triple a < b < c: C(c,3) + C(b,2) + a. koodhaxil_triple goes back. */
 #define KOODHAXIL_INDEX(a, b, c) (KOODHAXIL_TABLE(c) + (size_t)(b) * ((size_t)(b) - 1) / 2 + (size_t)(a))
 
 /* A record: the triplet ab|c. The close pair stands in either order. */
@@ -163,6 +164,13 @@ size_t koodhaxil_build(size_t n, const uint8_t *table, size_t table_length, uint
  */
 size_t koodhaxil_check(size_t n, const uint8_t *table, size_t table_length, const uint8_t *body, size_t body_length, size_t *values,
                        size_t values_length);
+
+/*
+ * The way back from KOODHAXIL_INDEX: is there a triple with this index, as 11 and 12 give one? 1 for yes: its species a < b < c are laid into
+ * `values`, a first, as far as there are places. 0 for no, beyond the 41,664 triples of 64 species: `values` stays. Nothing is refused: this is a
+ * question, and its answers are none of the numbers above.
+ */
+size_t koodhaxil_triple(size_t index, size_t *values, size_t values_length);
 
 #ifdef __cplusplus
 }

@@ -21,6 +21,8 @@ extern "C" {
     fn koodhaxil_build(n: usize, t: *const u8, t_len: usize, room: *mut u8, room_len: usize, values: *mut usize, values_len: usize) -> usize;
 
     fn koodhaxil_check(n: usize, t: *const u8, t_len: usize, body: *const u8, body_len: usize, values: *mut usize, values_len: usize) -> usize;
+
+    fn koodhaxil_triple(index: usize, values: *mut usize, values_len: usize) -> usize;
 }
 
 /// Reads a collection: document 01's number, with what is returned beside it laid into `values`.
@@ -57,4 +59,11 @@ pub fn build(n: usize, t: &[u8], room: &mut [u8], values: &mut [usize]) -> usize
 pub fn check(n: usize, t: &[u8], body: &[u8], values: &mut [usize]) -> usize {
     // SAFETY: as above.
     unsafe { koodhaxil_check(n, t.as_ptr(), t.len(), body.as_ptr(), body.len(), values.as_mut_ptr(), values.len()) }
+}
+
+/// Is there a triple with this index? 1 with its three species laid into `values`, or 0.
+#[allow(dead_code)] // of no use to `bench`
+pub fn triple(index: usize, values: &mut [usize]) -> usize {
+    // SAFETY: as above.
+    unsafe { koodhaxil_triple(index, values.as_mut_ptr(), values.len()) }
 }

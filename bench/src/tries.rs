@@ -1,6 +1,6 @@
 // Tries the library on good and bad input. The answers of the fixed list are written out by hand from document 01; those of the random collections,
-// lists of records, bodies, tables and candidates, and of all small candidates, come from the second program (`second/`). What a call must leave alone holds a pattern
-// before it, and is compared after it.
+// lists of records, bodies, tables and candidates, of all small candidates, and of all indices, come from the second program (`second/`). What a call
+// must leave alone holds a pattern before it, and is compared after it.
 
 mod boundary;
 mod plain;
@@ -44,6 +44,8 @@ enum Call<'a> {
     Build(usize, &'a [u8], usize),
     // A table and a body, which are only read.
     Check(usize, &'a [u8], &'a [u8]),
+    // An index; its answer, yes or no, is the number.
+    Triple(usize),
 }
 
 #[derive(PartialEq, Debug)]
@@ -65,7 +67,7 @@ impl Tally {
     // a copy of the table and the body is lent, and it is to stay too.
     fn call(&mut self, name: &str, call: Call, places: usize, told: &Told, filled: Option<&[u8]>) {
         let room = match call {
-            Call::Read(_) | Call::Check(..) => 0,
+            Call::Read(_) | Call::Check(..) | Call::Triple(_) => 0,
             Call::List(_, room) | Call::Enter(_, _, room) | Call::Order(_, _, room) | Call::Build(_, _, room) => room,
         };
         let mut values: Vec<usize> = (0..places).map(|i| 9_000_000_000 + i).collect();
@@ -87,6 +89,7 @@ impl Tally {
             Call::Order(n, body, _) => boundary::order(n, body, &mut lent, &mut values),
             Call::Build(n, table, _) => boundary::build(n, table, &mut lent, &mut values),
             Call::Check(n, table, _) => boundary::check(n, &lent[..table.len()], &lent[table.len()..], &mut values),
+            Call::Triple(index) => boundary::triple(index, &mut values),
         };
         // The compiler would take it that what is only read stays as it was.
         black_box(&mut lent);
@@ -191,6 +194,7 @@ fn show(name: &str, call: Call, places: usize, wanted: &Outcome, got: &Outcome) 
         Call::Order(n, body, room) => (format!("order, n {n}, room of {room} bytes"), body.len(), start(body)),
         Call::Build(n, table, room) => (format!("build, n {n}, room of {room} bytes"), table.len(), start(table)),
         Call::Check(n, table, body) => (format!("check, n {n}, body {}", start(body)), table.len(), start(table)),
+        Call::Triple(index) => (format!("triple, index {index}"), 0, String::new()),
     };
     println!("  call: {what}, {places} places for values");
     println!("  {length} long: {items}");
@@ -1257,6 +1261,20 @@ fn random_candidates(tally: &mut Tally) {
     tally.end_part(&format!("{CANDIDATES} random candidates, seed {SEED}, against the second program"));
 }
 
+// Each index of 64 species, counted by the loop over all triples, and some beyond. 65 species would have 43,680 triples.
+fn indices(tally: &mut Tally) {
+    let mut index = 0;
+    for (a, b, c) in triples::triples(64) {
+        tally.calls("an index of 64 species", Call::Triple(index), 1, &[a, b, c], None);
+        index += 1;
+    }
+    assert_eq!(index, 41_664);
+    for beyond in [41_664, 41_665, 43_679, 43_680, 1 << 32, (1 << 32) + 9, 1 << 63, usize::MAX] {
+        tally.calls("an index beyond", Call::Triple(beyond), 0, &[], None);
+    }
+    tally.end_part("indices back to their triples, and some beyond");
+}
+
 fn main() {
     let mut tally = Tally::default();
     header_and_lengths(&mut tally);
@@ -1282,6 +1300,7 @@ fn main() {
     small_candidates(&mut tally);
     parts_of_own_tables(&mut tally);
     random_candidates(&mut tally);
+    indices(&mut tally);
     println!("tries: {} cases, {} differ", tally.cases, tally.differ);
     if tally.differ > 0 {
         std::process::exit(1);

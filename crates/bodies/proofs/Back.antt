@@ -12,18 +12,18 @@ use Rattle.sets.proofs.Bools.{or-l, or-r}
 use Rattle.sets.proofs.Members.{from-one, from-bound}
 use Rattle.trees.specs.Trees.{Tree, Forest, leaf, node, nil, cons, under, underF, leaves, leavesF, degree, wellFormed}
 use Rattle.trees.proofs.Formed.{Formed, FormedF, formed-e}
-use Rattle.bodies.specs.Nodes.{nodes, width, mostNodes, badLength, roomFor, Good}
+use Rattle.bodies.specs.Nodes.{nodes, width, mostNodes, bodyLength, longest, badLength, roomFor, Good}
 use Rattle.bodies.specs.Draws.{treeOf, nodeCount, nodeCountF, bytes, bytesF, bodyOf}
 use Rattle.bodies.proofs.Laid.{Lays, LaysF, count-pos, laid-good, laid-back}
 
 -- ---- the bytes lay the tree out
 
 mutual
-  pub bytes-length : (t : Tree) (p at : ℕ) → length (bytes t p at) ≡ width * nodeCount t
+  pub bytes-length : (t : Tree) (p at : ℕ) → length (bytes t p at) ≡ bodyLength (nodeCount t)
   bytes-length (leaf x) p at = refl
   bytes-length (node f) p at = omega (arith, bytesF-length f at (suc at))
 
-  pub bytesF-length : (f : Forest) (p at : ℕ) → length (bytesF f p at) ≡ width * nodeCountF f
+  pub bytesF-length : (f : Forest) (p at : ℕ) → length (bytesF f p at) ≡ bodyLength (nodeCountF f)
   bytesF-length nil p at = refl
   bytesF-length (cons t f) p at =
       omega (arith, length-append (bytes t p at) (bytesF f p (at + nodeCount t)), bytes-length t p at, bytesF-length f p (at + nodeCount t))
@@ -35,27 +35,27 @@ byte b r m k e = sym (getD-drop m b k 0) ∙ ap (λ (z : List ℕ). getD z k 0) 
 onward : (b q r : List ℕ) (m k : ℕ) → drop m b ≡ q ++ r → length q ≡ k → drop (m + k) b ≡ r
 onward b q r m k e h = sym (drop-drop k m b) ∙ ap (drop k) e ∙ drop-at q r k h
 
-byte-0 : (b : List ℕ) (p : ℕ) (r : List ℕ) (at : ℕ) → drop (2 * at) b ≡ p ∷ r → getD b (2 * at) 0 ≡ p
-byte-0 b p r at e = let z : 2 * at + 0 ≡ 2 * at = omega arith in rw z at (byte b (p ∷ r) (2 * at) 0 e)
+byte-0 : (b : List ℕ) (p : ℕ) (r : List ℕ) (at : ℕ) → drop (width * at) b ≡ p ∷ r → getD b (width * at) 0 ≡ p
+byte-0 b p r at e = let z : width * at + 0 ≡ width * at = omega arith in rw z at (byte b (p ∷ r) (width * at) 0 e)
 
 mutual
   lays-bytes : (b rest : List ℕ) (t : Tree) (p at : ℕ) → drop (width * at) b ≡ bytes t p at ++ rest → Lays (nodes b) t p at
-  lays-bytes b rest (leaf x) p at e = (byte-0 b p (x ∷ rest) at e, byte b (p ∷ x ∷ rest) (2 * at) 1 e)
+  lays-bytes b rest (leaf x) p at e = (byte-0 b p (x ∷ rest) at e, byte b (p ∷ x ∷ rest) (width * at) 1 e)
   lays-bytes b rest (node f) p at e =
-      let s : 2 * suc at ≡ 2 * at + 2 = omega arith in (
+      let s : width * suc at ≡ width * at + width = omega arith in (
         byte-0 b p _ at e,
-        byte b (p ∷ 255 ∷ bytesF f at (suc at) ++ rest) (2 * at) 1 e,
-        lays-bytesF b rest f at (suc at) (ap (λ (z : ℕ). drop z b) s ∙ onward b (p ∷ 255 ∷ []) (bytesF f at (suc at) ++ rest) (2 * at) 2 e refl),
+        byte b (p ∷ 255 ∷ bytesF f at (suc at) ++ rest) (width * at) 1 e,
+        lays-bytesF b rest f at (suc at) (ap (λ (z : ℕ). drop z b) s ∙ onward b (p ∷ 255 ∷ []) (bytesF f at (suc at) ++ rest) (width * at) width e refl),
       )
 
   lays-bytesF : (b rest : List ℕ) (f : Forest) (p at : ℕ) → drop (width * at) b ≡ bytesF f p at ++ rest → LaysF (nodes b) f p at
   lays-bytesF b rest nil p at e = tt
   lays-bytesF b rest (cons t f) p at e =
       let q = e ∙ append-assoc (bytes t p at) (bytesF f p (at + nodeCount t)) rest in
-      let s : 2 * (at + nodeCount t) ≡ 2 * at + 2 * nodeCount t = omega arith in (
+      let s : width * (at + nodeCount t) ≡ width * at + width * nodeCount t = omega arith in (
         lays-bytes b (bytesF f p (at + nodeCount t) ++ rest) t p at q,
         lays-bytesF b rest f p (at + nodeCount t)
-            (ap (λ (z : ℕ). drop z b) s ∙ onward b (bytes t p at) (bytesF f p (at + nodeCount t) ++ rest) (2 * at) (2 * nodeCount t) q (bytes-length t p at)),
+            (ap (λ (z : ℕ). drop z b) s ∙ onward b (bytes t p at) (bytesF f p (at + nodeCount t) ++ rest) (width * at) (width * nodeCount t) q (bytes-length t p at)),
       )
 
 -- ---- a tree has fewer than two nodes a leaf, and no more leaves than species
@@ -106,17 +106,17 @@ leaves-few n t w bd = omega (arith, leaves-from n t (formed-e t w) bd, from-boun
 
 -- ---- the body
 
-pub body-length : (t : Tree) → length (bodyOf t) ≡ width * nodeCount t
+pub body-length : (t : Tree) → length (bodyOf t) ≡ bodyLength (nodeCount t)
 body-length t = bytes-length t 255 0
 
 pub body-count : (t : Tree) → nodes (bodyOf t) .count ≡ nodeCount t
 body-count t = omega (arith, body-length t)
 
-good-length : (k : ℕ) → 0 < k → k ≤ mostNodes → badLength (width * k) ≡ false
+good-length : (k : ℕ) → 0 < k → k ≤ mostNodes → badLength (bodyLength k) ≡ false
 good-length k p h =
-    let z : width * k ≡ 0 → ⊥ = λ e. omega arith in
-    let m : width * k % width ≡ 0 = omega arith in
-    rw (ne-eqb (width * k) 0 z, eq-eqb (width * k % width) 0 m) (le-ltb (width * mostNodes) (width * k) (omega arith))
+    let z : bodyLength k ≡ 0 → ⊥ = λ e. omega arith in
+    let m : bodyLength k % width ≡ 0 = omega arith in
+    rw (ne-eqb (bodyLength k) 0 z, eq-eqb (bodyLength k % width) 0 m) (le-ltb longest (bodyLength k) (omega arith))
 
 module _ (n : ℕ) (t : Tree) (w : So (wellFormed t)) (bd : Below n (under t)) where
   pub body-room : length (bodyOf t) ≤ roomFor n

@@ -6,7 +6,7 @@ use native.Mathlib.Decide.{ℕ-discrete}
 use native.Mathlib.Omega.{arith}
 use borrow.Author.Tests.{eq-eqb, ne-eqb}
 use Rattle.trees.specs.Trees.{Forest, nil, cons}
-use Rattle.bodies.specs.Nodes.{Nodes, among, children, Good}
+use Rattle.bodies.specs.Nodes.{Nodes, childrenAmong, children, Good}
 use Rattle.bodies.specs.Draws.{forestOf, grow, subtree, nodeCount, nodeCountF}
 use Rattle.bodies.proofs.Under.{children-after, subtree-eq}
 
@@ -49,7 +49,7 @@ module _ (n : ℕ) (v : Nodes) (g : Good n v) where
 
   -- node j with what hangs from it by its children among the k nodes from i on
   abbrev weight : ℕ → ℕ → ℕ → ℕ
-  weight k i j = suc (hung (among v j k i))
+  weight k i j = suc (hung (childrenAmong v j k i))
 
   weight-full : (k i : ℕ) → i + suc k ≡ v .count → weight k (suc i) i ≡ nodeCount (subtree v i)
   weight-full k i e =
@@ -57,7 +57,7 @@ module _ (n : ℕ) (v : Nodes) (g : Good n v) where
       let b : i + 1 ≡ suc i = omega arith in
       let h : i < v .count = omega arith in
       sym (ap nodeCount (subtree-eq n v g i h) ∙ count-grow (v .species i) (forestOf (subtree v) (children v i))
-      ∙ ap (λ (l : List ℕ). suc (hung l)) (children-after n v g i h ∙ ap₂ (λ (x y : ℕ). among v i x y) a b))
+      ∙ ap (λ (l : List ℕ). suc (hung l)) (children-after n v g i h ∙ ap₂ (λ (x y : ℕ). childrenAmong v i x y) a b))
 
   -- node i handed to its parent
   step : (k i : ℕ) → 0 < i → i + suc k ≡ v .count → sum (weight (suc k) i) i ≡ sum (weight k (suc i)) (suc i)

@@ -21,7 +21,7 @@ use Rattle.bodies.specs.Nodes.{Good, badLength, nodes}
 module _ (n : ℕ) (small : n ≤ 64) where
   module _ (b : List ℕ) (g : Good n (nodes b)) (l : badLength (length b) ≡ false) where
     some-node : 0 < nodes b .count
-    some-node = length-good (length b) l .0
+    some-node = length-good b l .0
 
     pub good-formed : So (wellFormed (treeOf b))
     good-formed = tree-formed n (nodes b) g some-node
@@ -45,7 +45,7 @@ module _ (n : ℕ) (small : n ≤ 64) where
     house-nodes = house-count (treeOf b) ∙ all-nodes n (nodes b) g some-node
 
     pub ordered-length : length (ordered b) ≡ length b
-    ordered-length = omega (arith, body-length (house (treeOf b)), house-nodes, length-good (length b) l)
+    ordered-length = omega (arith, body-length (house (treeOf b)), house-nodes, length-good b l)
 
   pub ordered-groups : (b b′ : List ℕ) → Good n (nodes b) → Good n (nodes b′) → badLength (length b) ≡ false → badLength (length b′) ≡ false
       → SameGroups (treeOf b) (treeOf b′) ↔ (ordered b ≡ ordered b′)

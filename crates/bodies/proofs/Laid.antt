@@ -12,7 +12,7 @@ use Rattle.sets.specs.Species.{Below}
 use Rattle.sets.proofs.Bools.{or-l, or-r}
 use Rattle.trees.specs.Trees.{Tree, Forest, leaf, node, nil, cons, under, underF, degree}
 use Rattle.trees.proofs.Formed.{Formed, FormedF}
-use Rattle.bodies.specs.Nodes.{Nodes, among, children, Good}
+use Rattle.bodies.specs.Nodes.{Nodes, childrenAmong, children, Good}
 use Rattle.bodies.specs.Draws.{forestOf, grow, subtree, nodeCount, nodeCountF}
 use Rattle.bodies.proofs.Under.{among-none, among-split, subtree-eq}
 
@@ -72,17 +72,17 @@ module _ (v : Nodes) where
 
   -- ---- the children of a node are the trees of its forest
 
-  among-head : (i k j : ℕ) → v .parent j ≡ i → ((c : ℕ) → suc j ≤ c → c < j + suc k → v .parent c ≡ i → ⊥) → among v i (suc k) j ≡ j ∷ []
+  among-head : (i k j : ℕ) → v .parent j ≡ i → ((c : ℕ) → suc j ≤ c → c < j + suc k → v .parent c ≡ i → ⊥) → childrenAmong v i (suc k) j ≡ j ∷ []
   among-head i k j e h = rw (eq-eqb _ _ e) (ap (λ (z : List ℕ). j ∷ z) (among-none v i k (suc j) (λ c l m. h c l (omega arith))))
 
-  among-kids : (f : Forest) (p at : ℕ) → p < at → LaysF v f p at → among v p (nodeCountF f) at ≡ kidsAt f at
+  among-kids : (f : Forest) (p at : ℕ) → p < at → LaysF v f p at → childrenAmong v p (nodeCountF f) at ≡ kidsAt f at
   among-kids nil p at q l = refl
   among-kids (cons t f) p at q l =
       let pos = count-pos t in
       let m : nodeCount t ≡ suc (nodeCount t - 1) = omega arith in
       among-split v p (nodeCount t) (nodeCountF f) at
       ∙ ap₂ (λ (y z : List ℕ). y ++ z)
-      (ap (λ (z : ℕ). among v p z at) m ∙ among-head p (nodeCount t - 1) at (head-parent t p at (l .0))
+      (ap (λ (z : ℕ). childrenAmong v p z at) m ∙ among-head p (nodeCount t - 1) at (head-parent t p at (l .0))
       (λ c h k e. omega (arith, parents t p at (l .0) c h (omega arith) .0)))
       (among-kids f p (at + nodeCount t) (omega arith) (l .1))
 
@@ -110,10 +110,10 @@ module _ (v : Nodes) where
       let rest = v .count - (at + suc (nodeCountF f)) in
       let m : v .count - 1 ≡ at + (nodeCountF f + rest) = omega arith in
       let s : 1 + at ≡ suc at = omega arith in
-      ap (λ (z : ℕ). among v at z 1) m ∙ among-split v at at (nodeCountF f + rest) 1
+      ap (λ (z : ℕ). childrenAmong v at z 1) m ∙ among-split v at at (nodeCountF f + rest) 1
       ∙ ap₂ (λ (y z : List ℕ). y ++ z)
       (among-none v at at 1 (λ c p q e. omega (arith, later c (omega arith) (omega arith))))
-      (ap (λ (z : ℕ). among v at (nodeCountF f + rest) z) s ∙ among-split v at (nodeCountF f) rest (suc at)
+      (ap (λ (z : ℕ). childrenAmong v at (nodeCountF f + rest) z) s ∙ among-split v at (nodeCountF f) rest (suc at)
       ∙ ap₂ (λ (y z : List ℕ). y ++ z)
       (among-kids f at (suc at) (omega arith) l)
       (among-none v at rest (suc at + nodeCountF f) (λ c p q e. o c (omega arith) (omega arith) (omega arith) (omega arith))))

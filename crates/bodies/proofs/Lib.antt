@@ -2,6 +2,7 @@
 pub mod Rules
 pub mod Under
 pub mod Drawn
+pub mod NodeGroups
 pub mod Laid
 pub mod Back
 pub mod Counts

@@ -1,8 +1,9 @@
 -- The walks over the nodes, step by step and what they find; a fault is answered exactly when the nodes are not good. Assumes nothing.
 use mathlib.Core.Bool.{Bool, So, _&&_, cond, false, false≢true, not, true}
+use mathlib.Core.List.{List}
 use mathlib.Core.Logic.{_↔_}
 use mathlib.Core.Path.{_∙_, _≡_, ap, refl, subst, sym}
-use Prim.Native.Nat.{_%_, _*_, _+_, _-_, _/_, _<_, _≤_, suc, zero, ℕ}
+use Prim.Native.Nat.{_%_, _+_, _-_, _<_, _≤_, suc, zero, ℕ}
 use native.Mathlib.Nat.{div-add-mod}
 use native.Mathlib.Numerals.{add-one}
 use native.Mathlib.Omega.{arith}
@@ -10,8 +11,8 @@ use borrow.Author.Tests.{eq-eqb, eqb-false, eqb-true, le-ltb, lt-ltb, ltb-false,
 use lib.Dec.{eqb, eqb·suc-zero, ltb}
 use lib.ListN.{length}
 use Rattle.sets.proofs.Bools.{and-i, and-l, and-r, ne-e, or-none, test}
-use Rattle.bodies.specs.Faults.{fault, first, nodeFault, orElse, parentFault, seen}
-use Rattle.bodies.specs.Nodes.{Good, Nodes, among, badLength, children}
+use Rattle.bodies.specs.Faults.{earlier, fault, firstBreak, nodeFault, orElse, parentFault, rightSpecies, seen}
+use Rattle.bodies.specs.Nodes.{Good, Nodes, childrenAmong, badLength, bodyLength, children, longest, mostNodes, nodes, width}
 use Rattle.bodies.specs.declared.Broken.{Broken}
 use Rattle.bodies.specs.declared.Verdict.{Verdict}
 use Rattle.bodies.specs.declared.Verdict.the-variants.{Breaks, Fine}
@@ -24,13 +25,13 @@ left c j h = omega arith
 none : (c j : ℕ) → c ≤ j → c - j ≡ 0
 none c j h = omega arith
 
-pub among-hit : (v : Nodes) (i c j : ℕ) → j < c → v .parent j ≡ i → length (among v i (c - j) j) ≡ suc (length (among v i (c - (j + 1)) (j + 1)))
+pub among-hit : (v : Nodes) (i c j : ℕ) → j < c → v .parent j ≡ i → length (childrenAmong v i (c - j) j) ≡ suc (length (childrenAmong v i (c - (j + 1)) (j + 1)))
 among-hit v i c j h e = rw (left c j h, eq-eqb _ _ e, add-one j) refl
 
-pub among-miss : (v : Nodes) (i c j : ℕ) → j < c → (v .parent j ≡ i → ⊥) → length (among v i (c - j) j) ≡ length (among v i (c - (j + 1)) (j + 1))
+pub among-miss : (v : Nodes) (i c j : ℕ) → j < c → (v .parent j ≡ i → ⊥) → length (childrenAmong v i (c - j) j) ≡ length (childrenAmong v i (c - (j + 1)) (j + 1))
 among-miss v i c j h e = rw (left c j h, ne-eqb _ _ e, add-one j) refl
 
-pub among-end : (v : Nodes) (i c j : ℕ) → c ≤ j → length (among v i (c - j) j) ≡ 0
+pub among-end : (v : Nodes) (i c j : ℕ) → c ≤ j → length (childrenAmong v i (c - j) j) ≡ 0
 among-end v i c j h = rw (none c j h) refl
 
 -- node j is a leaf with species s
@@ -55,16 +56,16 @@ pub seen-end : (v : Nodes) (s c j : ℕ) → c ≤ j → seen v s (c - j) j ≡ 
 unfolding seen
 seen-end v s c j h = rw (none c j h) refl
 
-pub first-stop : (f : ℕ → Verdict) (c i : ℕ) (b : Broken) → i < c → f i ≡ Breaks b → first f (c - i) i ≡ Breaks b
-unfolding first
+pub first-stop : (f : ℕ → Verdict) (c i : ℕ) (b : Broken) → i < c → f i ≡ Breaks b → firstBreak f (c - i) i ≡ Breaks b
+unfolding firstBreak
 first-stop f c i b h e = rw (left c i h, e) refl
 
-pub first-on : (f : ℕ → Verdict) (c i : ℕ) → i < c → f i ≡ Fine → first f (c - i) i ≡ first f (c - (i + 1)) (i + 1)
-unfolding first
+pub first-on : (f : ℕ → Verdict) (c i : ℕ) → i < c → f i ≡ Fine → firstBreak f (c - i) i ≡ firstBreak f (c - (i + 1)) (i + 1)
+unfolding firstBreak
 first-on f c i h e = rw (left c i h, e, add-one i) refl
 
-pub first-end : (f : ℕ → Verdict) (c i : ℕ) → c ≤ i → first f (c - i) i ≡ Fine
-unfolding first
+pub first-end : (f : ℕ → Verdict) (c i : ℕ) → c ≤ i → firstBreak f (c - i) i ≡ Fine
+unfolding firstBreak
 first-end f c i h = rw (none c i h) refl
 
 -- ---- what each walk finds
@@ -97,17 +98,17 @@ or-fine Fine b h = (refl, h)
 or-fine (Breaks x) b h = let z : _≡_ {A = ℕ} 0 1 = cc in absurd (omega arith)
 
 -- a walk is fine exactly when each node on it is
-pub first-fine : (f : ℕ → Verdict) (m i : ℕ) → first f m i ≡ Fine → (j : ℕ) → i ≤ j → j < i + m → f j ≡ Fine
-unfolding first
+pub first-fine : (f : ℕ → Verdict) (m i : ℕ) → firstBreak f m i ≡ Fine → (j : ℕ) → i ≤ j → j < i + m → f j ≡ Fine
+unfolding firstBreak
 first-fine f zero i h j l lt = absurd (omega arith)
 first-fine f (suc m) i h j l lt =
-    let p = or-fine (f i) (first f m (suc i)) h in
+    let p = or-fine (f i) (firstBreak f m (suc i)) h in
     test (eqb i j)
     (λ e. ap f (sym (eqb-true i j e)) ∙ p .0)
     (λ e. let ne : i ≡ j → ⊥ = ne-e i j e in first-fine f m (suc i) (p .1) j (omega arith) (omega arith))
 
-pub fine-first : (f : ℕ → Verdict) (m i : ℕ) → ((j : ℕ) → i ≤ j → j < i + m → f j ≡ Fine) → first f m i ≡ Fine
-unfolding first
+pub fine-first : (f : ℕ → Verdict) (m i : ℕ) → ((j : ℕ) → i ≤ j → j < i + m → f j ≡ Fine) → firstBreak f m i ≡ Fine
+unfolding firstBreak
 fine-first f zero i h = refl
 fine-first f (suc m) i h = rw (h i (omega arith) (omega arith)) (fine-first f m (suc i) (λ j l lt. h j (omega arith) (omega arith)))
 
@@ -117,9 +118,10 @@ both : (b : Bool) (w : Verdict) (x : Broken) → cond b w (Breaks x) ≡ Fine �
 both true w x h = (refl, h)
 both false w x h = let z : _≡_ {A = ℕ} 0 1 = cc in absurd (omega arith)
 
-unless : (b : Bool) (x : Broken) → cond b (Breaks x) Fine ≡ Fine → b ≡ false
-unless false x h = refl
-unless true x h = let z : _≡_ {A = ℕ} 0 1 = cc in absurd (omega arith)
+-- a rule that is not broken, and the rules behind it
+past : (b : Bool) (x : Broken) (w : Verdict) → cond b (Breaks x) w ≡ Fine → (b ≡ false) × (w ≡ Fine)
+past false x w h = (refl, h)
+past true x w h = let z : _≡_ {A = ℕ} 0 1 = cc in absurd (omega arith)
 
 -- a node whose parent is right, and one that breaks no other rule
 record Hung (v : Nodes) (i : ℕ) : Type 0 where
@@ -142,27 +144,29 @@ module _ (k n : ℕ) (v : Nodes) where
   hung-fine (suc i) g = rw (eqb·suc-zero i, lt-ltb _ _ (g .later (omega arith))) refl
 
   fine-kept : (i : ℕ) → nodeFault k v n i ≡ Fine → Kept n v i
-  fine-kept i h = test (eqb (length (children v i)) 0) leaf inner
+  fine-kept i h =
+      let a = past (not (rightSpecies n (v .species i) (length (children v i)))) _ _ h in
+      let b = past (ltb (earlier v (v .species i) (length (children v i)) i) i) _ _ (a .1) in
+      test (eqb (length (children v i)) 0) (leaf (not-false _ (a .0)) (b .0)) (inner (not-false _ (a .0)) (past (eqb (length (children v i)) 1) _ _ (b .1) .0))
     where
-      leaf : So (eqb (length (children v i)) 0) → Kept n v i
-      leaf e =
+      leaf : So (rightSpecies n (v .species i) (length (children v i))) → ltb (earlier v (v .species i) (length (children v i)) i) i ≡ false
+          → So (eqb (length (children v i)) 0) → Kept n v i
+      leaf a b e =
           let z = eqb-true (length (children v i)) 0 e in
-          let p = both (ltb (v .species i) n) _ _ (rw e at h) in
-          let q : i ≤ seen v (v .species i) i 0 = ltb-false _ _ (unless _ _ (p .1)) in
+          let q : i ≤ seen v (v .species i) i 0 = ltb-false _ _ (rw e at b) in
           record {
             inner = λ l. absurd (omega arith);
             two = λ l. absurd (omega arith);
-            outer = λ l. ltb-true _ _ (p .0);
+            outer = λ l. ltb-true _ _ (rw e at a);
             once = λ l j lt m s. omega (arith, seen-least v (v .species i) i 0 j (omega arith) (omega arith) (leaf-i v (v .species i) j s m));
           }
 
-      inner : So (not (eqb (length (children v i)) 0)) → Kept n v i
-      inner e =
+      inner : So (rightSpecies n (v .species i) (length (children v i))) → eqb (length (children v i)) 1 ≡ false → So (not (eqb (length (children v i)) 0)) → Kept n v i
+      inner a b e =
           let z = ne-e (length (children v i)) 0 e in
-          let p = both (eqb (v .species i) 255) _ _ (rw (not-true (eqb (length (children v i)) 0) e) at h) in
-          let q = eqb-false (length (children v i)) 1 (unless _ _ (p .1)) in
+          let q = eqb-false (length (children v i)) 1 b in
           record {
-            inner = λ l. eqb-true _ _ (p .0);
+            inner = λ l. eqb-true _ _ (rw (not-true (eqb (length (children v i)) 0) e) at a);
             two = λ l. omega (arith, z, q);
             outer = λ l. absurd (z l);
             once = λ l. absurd (z l);
@@ -180,19 +184,21 @@ module _ (k n : ℕ) (v : Nodes) where
           (λ l. ltb-false (seen v (v .species i) i 0) i (not-true (ltb (seen v (v .species i) i 0) i) l))
 
       leaf : So (eqb (length (children v i)) 0) → nodeFault k v n i ≡ Fine
-      leaf e = let z = eqb-true (length (children v i)) 0 e in rw (e, lt-ltb _ _ (g .outer z), le-ltb _ _ (fresh z)) refl
+      leaf e =
+          let z = eqb-true (length (children v i)) 0 e in
+          rw (e, lt-ltb _ _ (g .outer z), le-ltb _ _ (fresh z), z) refl
 
       inner : So (not (eqb (length (children v i)) 0)) → nodeFault k v n i ≡ Fine
       inner e =
           let z = ne-e (length (children v i)) 0 e in
           let l : 0 < length (children v i) = omega (arith, z) in
           let q : length (children v i) ≡ 1 → ⊥ = λ w. omega (arith, g .two l) in
-          rw (not-true (eqb (length (children v i)) 0) e, eq-eqb _ _ (g .inner l), ne-eqb _ _ q) refl
+          rw (not-true (eqb (length (children v i)) 0) e, eq-eqb _ _ (g .inner l), le-ltb i i (omega arith), ne-eqb _ _ q) refl
 
   fine-good : fault k v n ≡ Fine → Good n v
   unfolding fault
   fine-good h =
-      let p = or-fine (first (parentFault k v) (v .count) 0) (first (nodeFault k v n) (v .count) 0) h in
+      let p = or-fine (firstBreak (parentFault k v) (v .count) 0) (firstBreak (nodeFault k v n) (v .count) 0) h in
       let hung : (i : ℕ) → i < v .count → Hung v i = λ i l. fine-hung i (first-fine (parentFault k v) (v .count) 0 (p .0) i (omega arith) (omega arith)) in
       let kept : (i : ℕ) → i < v .count → Kept n v i = λ i l. fine-kept i (first-fine (nodeFault k v n) (v .count) 0 (p .1) i (omega arith) (omega arith)) in
       record {
@@ -232,13 +238,17 @@ good-more n m v l g = record {
 
 -- ---- lengths
 
--- a length that is not bad is that of 1 to 127 nodes
-pub length-good : (l : ℕ) → badLength l ≡ false → (0 < l / 2) × (l / 2 ≤ 127) × (l ≡ 2 * (l / 2))
-length-good l h =
-    let a = or-none (eqb l 0) _ h in
-    let b = or-none (not (eqb (l % 2) 0)) _ (a .1) in
-    let z = eqb-false l 0 (a .0) in
-    let e = eqb-true (l % 2) 0 (not-false _ (b .0)) in
-    let m = ltb-false 254 l (b .1) in
-    let d = div-add-mod l 2 in
-    (omega (arith, z), omega arith, omega arith)
+-- no good length is longer than the longest
+pub length-most : (l : ℕ) → badLength l ≡ false → l ≤ longest
+length-most l h = ltb-false longest l (or-none (not (eqb (l % width) 0)) _ (or-none (eqb l 0) _ h .1) .1)
+
+-- a body of good length has 1 to the most nodes, and no byte behind them
+pub length-good : (b : List ℕ) → badLength (length b) ≡ false
+    → (0 < nodes b .count) × (nodes b .count ≤ mostNodes) × (length b ≡ bodyLength (nodes b .count))
+length-good b h =
+    let l = length b in
+    let p = or-none (eqb l 0) _ h in
+    let z = eqb-false l 0 (p .0) in
+    let e = eqb-true (l % width) 0 (not-false _ (or-none (not (eqb (l % width) 0)) _ (p .1) .0)) in
+    let d = div-add-mod l width in
+    (omega (arith, z), omega (arith, length-most l h), omega arith)

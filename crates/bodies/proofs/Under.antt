@@ -13,7 +13,7 @@ use Rattle.sets.specs.Species.{Ascending, put}
 use Rattle.sets.proofs.Bools.{or-case, or-l, or-r, by-order}
 use Rattle.sets.proofs.Ordered.{from-ascend, of-from, in-from}
 use Rattle.trees.specs.Trees.{Tree, leaf, cons, under, underF, degree}
-use Rattle.bodies.specs.Nodes.{Nodes, among, children, Good}
+use Rattle.bodies.specs.Nodes.{Nodes, childrenAmong, children, Good}
 use Rattle.bodies.specs.Draws.{forestOf, grow, treeAt, subtree}
 
 -- ---- the trees at some nodes
@@ -50,7 +50,7 @@ put-append true i l m = refl
 put-append false i l m = refl
 
 module _ (v : Nodes) (i : ℕ) where
-  pub among-split : (k l j : ℕ) → among v i (k + l) j ≡ among v i k j ++ among v i l (j + k)
+  pub among-split : (k l j : ℕ) → childrenAmong v i (k + l) j ≡ childrenAmong v i k j ++ childrenAmong v i l (j + k)
   among-split zero l j =
       let a : zero + l ≡ l = omega arith in
       let b : j + zero ≡ j = omega arith in
@@ -58,9 +58,9 @@ module _ (v : Nodes) (i : ℕ) where
   among-split (suc k) l j =
       let a : suc k + l ≡ suc (k + l) = omega arith in
       let b : j + suc k ≡ suc j + k = omega arith in
-      rw (a, b) (ap (put (eqb (v .parent j) i) j) (among-split k l (suc j)) ∙ put-append (eqb (v .parent j) i) j (among v i k (suc j)) (among v i l (suc j + k)))
+      rw (a, b) (ap (put (eqb (v .parent j) i) j) (among-split k l (suc j)) ∙ put-append (eqb (v .parent j) i) j (childrenAmong v i k (suc j)) (childrenAmong v i l (suc j + k)))
 
-  pub among-none : (k j : ℕ) → ((c : ℕ) → j ≤ c → c < j + k → v .parent c ≡ i → ⊥) → among v i k j ≡ []
+  pub among-none : (k j : ℕ) → ((c : ℕ) → j ≤ c → c < j + k → v .parent c ≡ i → ⊥) → childrenAmong v i k j ≡ []
   among-none zero j h = refl
   among-none (suc k) j h = rw (ne-eqb _ _ (h j (omega arith) (omega arith))) (among-none k (suc j) (λ c l m. h c (omega arith) (omega arith)))
 
@@ -118,14 +118,14 @@ module _ (n : ℕ) (v : Nodes) (g : Good n v) where
   under-le i j (down {p = p} h u) = omega (arith, under-le i p u, child-later p j h)
 
   -- all children of i come after i
-  pub children-after : (i : ℕ) → i < v .count → children v i ≡ among v i (v .count - (i + 1)) (i + 1)
+  pub children-after : (i : ℕ) → i < v .count → children v i ≡ childrenAmong v i (v .count - (i + 1)) (i + 1)
   unfolding children
   children-after i h =
       let m : v .count - 1 ≡ i + (v .count - (i + 1)) = omega arith in
       let s : 1 + i ≡ i + 1 = omega arith in
-      ap (λ (z : ℕ). among v i z 1) m ∙ among-split v i i (v .count - (i + 1)) 1
-      ∙ ap (λ (l : List ℕ). l ++ among v i (v .count - (i + 1)) (1 + i)) (among-none v i i 1 (λ c p q e. omega (arith, g .later c p (omega arith))))
-      ∙ ap (λ (z : ℕ). among v i (v .count - (i + 1)) z) s
+      ap (λ (z : ℕ). childrenAmong v i z 1) m ∙ among-split v i i (v .count - (i + 1)) 1
+      ∙ ap (λ (l : List ℕ). l ++ childrenAmong v i (v .count - (i + 1)) (1 + i)) (among-none v i i 1 (λ c p q e. omega (arith, g .later c p (omega arith))))
+      ∙ ap (λ (z : ℕ). childrenAmong v i (v .count - (i + 1)) z) s
 
   -- what is so of a node where it is so of its children is so of every node
   pub by-children {ℓ} : (P : ℕ → Type ℓ) → ((i : ℕ) → i < v .count → ((c : ℕ) → Child v i c → P c) → P i) → (i : ℕ) → i < v .count → P i

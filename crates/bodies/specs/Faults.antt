@@ -1,6 +1,6 @@
 -- The first rule that nodes break. Document 01, "Numbers handed back": "Inside 6: parents of all nodes first; then node by node, bad species, seen
 -- before, only child."
-use mathlib.Core.Bool.{Bool, cond, _&&_}
+use mathlib.Core.Bool.{Bool, cond, not, _&&_}
 use Prim.Native.Nat.{ℕ, zero, suc}
 use lib.Dec.{eqb, ltb}
 use lib.ListN.{length}
@@ -16,18 +16,26 @@ orElse Fine w = w
 orElse (Breaks b) w = Breaks b
 
 -- the first of f i, f (i + 1), .., k of them
-unfoldable pub first : (ℕ → Verdict) → ℕ → ℕ → Verdict
-first f zero i = Fine
-first f (suc k) i = orElse (f i) (first f k (suc i))
+unfoldable pub firstBreak : (ℕ → Verdict) → ℕ → ℕ → Verdict
+firstBreak f zero i = Fine
+firstBreak f (suc k) i = orElse (f i) (firstBreak f k (suc i))
 
 -- node 0's parent is 255, and a later node's parent is a smaller node number
 abbrev pub rightParent : Nodes → ℕ → Bool
 rightParent v i = cond (eqb i 0) (eqb (v .parent i) 255) (ltb (v .parent i) i)
 
+-- a node without children has a species below n, and one with m > 0 children has 255
+abbrev pub rightSpecies : ℕ → ℕ → ℕ → Bool
+rightSpecies n s m = cond (eqb m 0) (ltb s n) (eqb s 255)
+
 -- the first leaf with species s among the m nodes from j on; j + m where there is none
 unfoldable pub seen : Nodes → ℕ → ℕ → ℕ → ℕ
 seen v s zero j = j
 seen v s (suc m) j = cond (eqb (v .species j) s && eqb (length (children v j)) 0) j (seen v s m (suc j))
+
+-- the first leaf before node i with species s, where node i has no children (m is 0); i where there is none
+abbrev pub earlier : Nodes → ℕ → ℕ → ℕ → ℕ
+earlier v s m i = cond (eqb m 0) (seen v s i 0) i
 
 module _ (k : ℕ) (v : Nodes) where
   -- tree k breaks a rule at node i
@@ -37,18 +45,16 @@ module _ (k : ℕ) (v : Nodes) where
   abbrev pub parentFault : ℕ → Verdict
   parentFault i = cond (rightParent v i) Fine (breaks i (BadParent (v .parent i)))
 
-  -- a node without children
-  abbrev pub leafFault : ℕ → ℕ → Verdict
-  leafFault n i = cond (ltb (v .species i) n)
-      (cond (ltb (seen v (v .species i) i 0) i) (breaks i (SeenBefore (seen v (v .species i) i 0))) Fine)
-      (breaks i (BadSpecies (v .species i)))
-
-  -- a node with children
-  abbrev pub innerFault : ℕ → Verdict
-  innerFault i = cond (eqb (v .species i) 255) (cond (eqb (length (children v i)) 1) (breaks i OnlyChild) Fine) (breaks i (BadSpecies (v .species i)))
+  -- "node by node, bad species, seen before, only child", of a node with species s and m children
+  abbrev pub ruleFault : ℕ → ℕ → ℕ → ℕ → Verdict
+  ruleFault n s m i =
+      cond (not (rightSpecies n s m)) (breaks i (BadSpecies s))
+      (cond (ltb (earlier v s m i) i) (breaks i (SeenBefore (earlier v s m i)))
+      (cond (eqb m 1) (breaks i OnlyChild)
+      Fine))
 
   abbrev pub nodeFault : ℕ → ℕ → Verdict
-  nodeFault n i = cond (eqb (length (children v i)) 0) (leafFault n i) (innerFault i)
+  nodeFault n i = ruleFault n (v .species i) (length (children v i)) i
 
   unfoldable pub fault : ℕ → Verdict
-  fault n = orElse (first parentFault (v .count) 0) (first (nodeFault n) (v .count) 0)
+  fault n = orElse (firstBreak parentFault (v .count) 0) (firstBreak (nodeFault n) (v .count) 0)

@@ -28,9 +28,13 @@ nodes b = nodesOf width b
 abbrev pub mostNodes : ℕ
 mostNodes = 127
 
+-- the length of a body of k nodes
+abbrev pub bodyLength : ℕ → ℕ
+bodyLength k = width * k
+
 -- the longest body: 254 bytes
 abbrev pub longest : ℕ
-longest = width * mostNodes
+longest = bodyLength mostNodes
 
 -- "A body has 2 to 254 bytes, always an even number"; "body length 0, odd or over 254"
 abbrev pub badLength : ℕ → Bool
@@ -42,15 +46,15 @@ none = 255
 
 -- the room that the body of any tree of s species fits into: 4s - 2 bytes
 abbrev pub roomFor : ℕ → ℕ
-roomFor s = width * (2 * s - 1)
+roomFor s = bodyLength (2 * s - 1)
 
 -- the nodes with parent i, among the k nodes from j on
-abbrev pub among : Nodes → ℕ → ℕ → ℕ → List ℕ
-among v i k j = from j k (λ x. eqb (v .parent x) i)
+abbrev pub childrenAmong : Nodes → ℕ → ℕ → ℕ → List ℕ
+childrenAmong v i k j = from j k (λ x. eqb (v .parent x) i)
 
 -- the children of i, in node order; node 0 is nobody's child (shut, so that it does not unfold where the count is a numeral)
 unfoldable pub children : Nodes → ℕ → List ℕ
-children v i = among v i (v .count - 1) 1
+children v i = childrenAmong v i (v .count - 1) 1
 
 -- a good body, in document 01's sentences
 pub record Good (n : ℕ) (v : Nodes) : Type 0 where

@@ -1,18 +1,20 @@
 // The bytes of a tree's body: its nodes, the tree rules and their faults, and writing nodes.
 ghost use mathlib.Core.Path.{_≡_};
 ghost use mathlib.Core.List.{[], _∷_};
-ghost use Prim.Native.Nat.{suc, _*_, _<_, _≤_, _/_};
+ghost use Prim.Native.Nat.{suc, _*_, _<_, _≤_};
 ghost use lib.ListN.{length, take};
 ghost use lib.Seq.{sets};
-ghost use Rattle.bodies.specs.Nodes.{nodes, width, badLength, roomFor, children};
-ghost use Rattle.bodies.specs.Faults.{rightParent, seen, parentFault, nodeFault, fault};
+ghost use Rattle.bodies.specs.Nodes.{nodes, width, mostNodes, bodyLength, badLength, roomFor, children};
+ghost use Rattle.bodies.specs.Faults.{rightParent, rightSpecies, earlier, parentFault, nodeFault, fault};
 ghost use Rattle.bodies.specs.Draws.{written};
 
 // The bytes of a node: its parent, then its species.
 const WIDTH: usize = 2;
 
-// The most nodes that a body has.
-const MOST_NODES: usize = 127;
+// The most nodes that a body has, and the most bytes.
+pub const MOST_NODES: usize = 127;
+
+pub const LONGEST: usize = WIDTH * MOST_NODES;
 
 // The root's parent, and the species of a node with children.
 pub const NONE: u8 = 255;
@@ -48,7 +50,15 @@ pub fn wide(x: u8) -> usize
 pub fn bad_length(l: usize) -> bool
     ensures { λ r. ⌜ r ≡ badLength l ⌝ }
 {
-    l == 0 || l % WIDTH != 0 || l > WIDTH * MOST_NODES
+    l == 0 || l % WIDTH != 0 || l > LONGEST
+}
+
+// The length of a body of k nodes.
+pub fn body_length(k: usize) -> usize
+    requires { ⌜ k ≤ mostNodes ⌝ }
+    ensures { λ r. ⌜ r ≡ bodyLength k ⌝ }
+{
+    WIDTH * k
 }
 
 // The length that holds the body of any tree of s species.
@@ -66,14 +76,14 @@ pub fn node_count(body: &[u8]) -> usize
 }
 
 pub fn parent(body: &[u8], i: usize) -> u8
-    requires { ⌜ i < length (now body) / 2 ⌝ }
+    requires { ⌜ i < nodes (now body) .count ⌝ }
     ensures { λ r. ⌜ r ≡ nodes (now (body .entry)) .parent i ⌝ }
 {
     body[WIDTH * i]
 }
 
 pub fn species(body: &[u8], i: usize) -> u8
-    requires { ⌜ i < length (now body) / 2 ⌝ }
+    requires { ⌜ i < nodes (now body) .count ⌝ }
     ensures { λ r. ⌜ r ≡ nodes (now (body .entry)) .species i ⌝ }
 {
     body[WIDTH * i + 1]
@@ -95,11 +105,14 @@ fn kids(body: &[u8], i: usize) -> usize
     k
 }
 
-// The first leaf before node i with species s; i where there is none.
-fn earlier(body: &[u8], s: u8, i: usize) -> usize
-    requires { ⌜ i < length (now body) / 2 ⌝ }
-    ensures { λ r. ⌜ r ≡ seen (nodes (now (body .entry))) s i 0 ⌝ }
+// The first leaf before node i with species s, where node i has no children (m is 0); i where there is none.
+fn earlier(body: &[u8], s: u8, m: usize, i: usize) -> usize
+    requires { ⌜ i < nodes (now body) .count ⌝ }
+    ensures { λ r. ⌜ r ≡ earlier (nodes (now (body .entry))) s m i ⌝ }
 {
+    if m != 0 {
+        return i;
+    }
     let mut j = 0;
     while j < i {
         if species(body, j) == s && kids(body, j) == 0 {
@@ -112,7 +125,7 @@ fn earlier(body: &[u8], s: u8, i: usize) -> usize
 
 // Is node i's parent right?
 fn right_parent(body: &[u8], i: usize) -> bool
-    requires { ⌜ i < length (now body) / 2 ⌝ }
+    requires { ⌜ i < nodes (now body) .count ⌝ }
     ensures { λ r. ⌜ r ≡ rightParent (nodes (now (body .entry))) i ⌝ }
 {
     let p = parent(body, i);
@@ -120,7 +133,7 @@ fn right_parent(body: &[u8], i: usize) -> bool
 }
 
 fn parent_fault(k: usize, body: &[u8], i: usize) -> Verdict
-    requires { ⌜ i < length (now body) / 2 ⌝ }
+    requires { ⌜ i < nodes (now body) .count ⌝ }
     ensures { λ r. ⌜ r ≡ parentFault k (nodes (now (body .entry))) i ⌝ }
 {
     if right_parent(body, i) {
@@ -133,41 +146,43 @@ fn parent_fault(k: usize, body: &[u8], i: usize) -> Verdict
     })
 }
 
+// Is s right as the species of a node with m children?
+fn right_species(n: usize, s: u8, m: usize) -> bool
+    ensures { λ r. ⌜ r ≡ rightSpecies n s m ⌝ }
+{
+    if m == 0 { wide(s) < n } else { s == NONE }
+}
+
+// The rules of node i but for its parent's, in their order.
 fn node_fault(k: usize, n: usize, body: &[u8], i: usize) -> Verdict
-    requires { ⌜ i < length (now body) / 2 ⌝ }
+    requires { ⌜ i < nodes (now body) .count ⌝ }
     ensures { λ r. ⌜ r ≡ nodeFault k (nodes (now (body .entry))) n i ⌝ }
 {
     let s = species(body, i);
     let m = kids(body, i);
-    if m == 0 {
-        if wide(s) < n {
-            let j = earlier(body, s, i);
-            if j < i {
-                return Verdict::Breaks(Broken {
-                    tree: k,
-                    node: i,
-                    fault: Fault::SeenBefore(j),
-                });
-            }
-            return Verdict::Fine;
-        }
-    } else {
-        if s == NONE {
-            if m == 1 {
-                return Verdict::Breaks(Broken {
-                    tree: k,
-                    node: i,
-                    fault: Fault::OnlyChild,
-                });
-            }
-            return Verdict::Fine;
-        }
+    if !right_species(n, s, m) {
+        return Verdict::Breaks(Broken {
+            tree: k,
+            node: i,
+            fault: Fault::BadSpecies(s),
+        });
     }
-    Verdict::Breaks(Broken {
-        tree: k,
-        node: i,
-        fault: Fault::BadSpecies(s),
-    })
+    let j = earlier(body, s, m, i);
+    if j < i {
+        return Verdict::Breaks(Broken {
+            tree: k,
+            node: i,
+            fault: Fault::SeenBefore(j),
+        });
+    }
+    if m == 1 {
+        return Verdict::Breaks(Broken {
+            tree: k,
+            node: i,
+            fault: Fault::OnlyChild,
+        });
+    }
+    Verdict::Fine
 }
 
 // The first rule that the nodes of tree k break, with n species: the parents of all nodes first, then node by node.
@@ -202,7 +217,7 @@ pub fn first_fault(k: usize, n: usize, body: &[u8]) -> Verdict
 
 // Writes node `at`.
 pub fn put_node(room: &mut [u8], at: usize, parent: u8, species: u8)
-    requires { ⌜ width * suc at ≤ length (now room) ⌝ }
+    requires { ⌜ bodyLength (suc at) ≤ length (now room) ⌝ }
     ensures { λ _. ⌜ now (room .exit) ≡ sets (now (room .entry)) (width * at) (parent ∷ species ∷ []) ⌝ }
 {
     room[WIDTH * at] = parent;
@@ -211,8 +226,8 @@ pub fn put_node(room: &mut [u8], at: usize, parent: u8, species: u8)
 
 // Lays the first k nodes of a body over the front of room.
 pub fn copy(body: &[u8], k: usize, room: &mut [u8])
-    requires { ⌜ (width * k ≤ length (now body)) × (width * k ≤ length (now room)) ⌝ }
-    ensures { λ _. ⌜ now (room .exit) ≡ written (now (room .entry)) (take (width * k) (now (body .entry))) ⌝ }
+    requires { ⌜ (bodyLength k ≤ length (now body)) × (bodyLength k ≤ length (now room)) ⌝ }
+    ensures { λ _. ⌜ now (room .exit) ≡ written (now (room .entry)) (take (bodyLength k) (now (body .entry))) ⌝ }
 {
     let end = WIDTH * k;
     let mut i = 0;

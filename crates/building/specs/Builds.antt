@@ -1,86 +1,69 @@
--- Building the tree of a table. Document 01, "Numbers handed back": "Build: 2, 7, 8, 9 (room under 4n - 2 bytes), 10"; "order and build: node count".
-use mathlib.Core.Bool.{Bool, cond, true, false}
-use mathlib.Core.List.{List, [], _∷_}
+-- Building the tree of a table. Document 01, "Numbers handed back".
+use mathlib.Core.List.{List, [], _∷_, _++_}
 use Prim.Native.Nat.{ℕ}
-use lib.Dec.{ltb}
 use lib.ListN.{length}
 use Rattle.sets.specs.Species.{below}
 use Rattle.sets.specs.Sets.{number}
 use Rattle.trees.specs.Build.{Outcome, tree, stop, build}
-use Rattle.tables.specs.Bytes.{entered, over, wrongRoom, wrongByte}
+use Rattle.tables.specs.Bytes.{entered}
 use Rattle.bodies.specs.Nodes.{roomFor}
 use Rattle.bodies.specs.Draws.{nodeCount, bodyOf, written}
-use Rattle.answers.specs.Answers.{Value, node-count, first-place, stopping-set, Told, told, Step, step, wrongCount}
+use Rattle.answers.specs.Answers.{Told, node-count, told, value}
+use Rattle.answers.specs.Looks.{Settled, after, answered, firstRefusal, lookBytes, lookCount, lookRoom, lookTable}
+use Rattle.answers.specs.Refusals.{refusalTold}
+use Rattle.answers.specs.declared.Look.{Look}
+use Rattle.answers.specs.declared.Look.the-variants.{Pass, Refuse}
+use Rattle.answers.specs.declared.Refusal.the-variants.{NoTree}
+use Rattle.answers.specs.declared.Written.{Written}
 use Rattle.building.specs.declared.Answer.{Answer}
-use Rattle.building.specs.declared.Answer.the-variants.{Done, BadCount, BadTable, BadByte, ShortRoom, NoTree}
+use Rattle.building.specs.declared.Answer.the-variants.{Done, Refused}
 
 -- "The build starts from all n species."
 unfoldable pub outcome : ℕ → List ℕ → Outcome
 outcome n t = build (entered t) n (below n)
 
--- "room under 4n - 2 bytes", for a room of l bytes
-abbrev pub shortRoom : ℕ → ℕ → Bool
-shortRoom n l = ltb l (roomFor n)
+-- 10: "no tree exists", with "the stopping set"
+abbrev pub lookOutcome : Outcome → Look
+lookOutcome (tree T) = Pass
+lookOutcome (stop U) = Refuse (NoTree (number 64 U))
 
--- what the build came to: the tree's node count, or the set that stops
-abbrev pub concluded : Outcome → Answer
-concluded (tree T) = Done (record { nodes = nodeCount T })
-concluded (stop U) = NoTree (number 64 U)
+-- the tree's nodes and its body, where there is a tree
+abbrev pub nodesIn : Outcome → ℕ
+nodesIn (tree T) = nodeCount T
+nodesIn (stop U) = 0
 
--- the answer for n species, the table t and a room of l bytes
-unfoldable pub buildAnswer : ℕ → List ℕ → ℕ → Answer
-buildAnswer n t l =
-    cond (wrongCount n) BadCount
-    (cond (wrongRoom n (length t)) BadTable (cond (wrongByte t) (BadByte (over t)) (cond (shortRoom n l) ShortRoom (concluded (outcome n t)))))
+abbrev pub bodyIn : Outcome → List ℕ
+bodyIn (tree T) = bodyOf T
+bodyIn (stop U) = []
 
--- the room o with the tree's body at its front, if there is a tree
-abbrev pub raised : Outcome → List ℕ → List ℕ
-raised (tree T) o = written o (bodyOf T)
-raised (stop U) o = o
+-- on 0: "order and build: node count"; "order and build write the body and change nothing behind it", for the room o
+abbrev pub buildDone : Outcome → Written
+buildDone R = record { nodes = nodesIn R }
 
--- "Every number but 0 changes no lent byte. On 0 [..] order and build write the body and change nothing behind it."
-unfoldable pub buildContent : Answer → ℕ → List ℕ → List ℕ → List ℕ
-buildContent (Done w) n t o = raised (outcome n t) o
-buildContent BadCount n t o = o
-buildContent BadTable n t o = o
-buildContent (BadByte i) n t o = o
-buildContent ShortRoom n t o = o
-buildContent (NoTree u) n t o = o
+abbrev pub buildRoom : Outcome → List ℕ → List ℕ
+buildRoom R o = written o (bodyIn R)
 
--- what the room o holds afterwards
+-- 2, 7, 8, and 9 "(room under 4n - 2 bytes)", for the table t and a room of l bytes
+abbrev pub inputLooks : ℕ → List ℕ → ℕ → List Look
+inputLooks n t l = lookCount n ∷ lookTable n (length t) ∷ lookBytes t ∷ lookRoom (roomFor n) l ∷ []
+
+-- "Build: 2, 7, 8, 9 (room under 4n - 2 bytes), 10"
+abbrev pub buildLooks : ℕ → List ℕ → ℕ → List Look
+buildLooks n t l = inputLooks n t l ++ (lookOutcome (outcome n t) ∷ [])
+
+-- the looks l, then 10: o is the room before, r the answer, o′ the room after
+abbrev pub Raises : Outcome → List Look → List ℕ → Answer → List ℕ → Type 0
+Raises R l o r o′ = Settled Done Refused (l ++ (lookOutcome R ∷ [])) (buildDone R) (buildRoom R o) o r o′
+
+abbrev pub Builds : ℕ → List ℕ → List ℕ → Answer → List ℕ → Type 0
+Builds n t o r o′ = Raises (outcome n t) (inputLooks n t (length o)) o r o′
+
+abbrev pub buildAnswer : ℕ → List ℕ → ℕ → Answer
+buildAnswer n t l = answered Done Refused (firstRefusal (buildLooks n t l)) (buildDone (outcome n t))
+
 abbrev pub buildAfter : ℕ → List ℕ → List ℕ → List ℕ
-buildAfter n t o = buildContent (buildAnswer n t (length o)) n t o
+buildAfter n t o = after (firstRefusal (buildLooks n t (length o))) (buildRoom (outcome n t) o) o
 
 abbrev pub buildTold : Answer → Told
-buildTold (Done w) = told 0 (node-count (w .nodes) ∷ [])
-buildTold BadCount = told 2 []
-buildTold BadTable = told 7 []
-buildTold (BadByte i) = told 8 (first-place i ∷ [])
-buildTold ShortRoom = told 9 []
-buildTold (NoTree u) = told 10 (stopping-set u ∷ [])
-
--- "no tree exists", with "the stopping set"
-abbrev pub stopped : Outcome → Bool
-stopped (tree T) = false
-stopped (stop U) = true
-
-abbrev pub stopValues : Outcome → List Value
-stopValues (tree T) = []
-stopValues (stop U) = stopping-set (number 64 U) ∷ []
-
-abbrev pub buildOrder : ℕ → List ℕ → ℕ → List Step
-buildOrder n t l =
-    step 2 (wrongCount n) []
-    ∷ step 7 (wrongRoom n (length t)) []
-    ∷ step 8 (wrongByte t) (first-place (over t) ∷ [])
-    ∷ step 9 (shortRoom n l) []
-    ∷ step 10 (stopped (outcome n t)) (stopValues (outcome n t))
-    ∷ []
-
--- with 0, the node count
-abbrev pub builtValues : Outcome → List Value
-builtValues (tree T) = node-count (nodeCount T) ∷ []
-builtValues (stop U) = []
-
-abbrev pub buildValues : ℕ → List ℕ → List Value
-buildValues n t = builtValues (outcome n t)
+buildTold (Done w) = told 0 (value node-count (w .nodes) ∷ [])
+buildTold (Refused x) = refusalTold x

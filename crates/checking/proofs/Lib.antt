@@ -1,4 +1,3 @@
 -- The laws of checking.
-pub mod Settled
-pub mod Answered
-pub mod Demand1
+pub mod Passing
+pub mod Judged

@@ -1,50 +1,51 @@
--- Checking a tree against a table. Document 01, "Numbers handed back": "Check: 2, 7, 8, 5, 6, 11, 12"; "The tree number is 0 where there is only one
--- body"; 11 is returned with "triple index, table byte", 12 with "triple index".
-use mathlib.Core.Bool.{cond}
-use mathlib.Core.List.{List, [], _∷_}
+-- Checking a tree against a table. Document 01, "Numbers handed back".
+use mathlib.Core.List.{List, [], _∷_, _++_}
 use Prim.Native.Nat.{ℕ}
 use lib.Dec.{ltb}
 use lib.ListN.{getD, length}
-use Rattle.tables.specs.Bytes.{over, wrongByte, wrongRoom}
-use Rattle.tables.specs.Checked.{Checked, checked, contradicted, firstDiffers, firstUnsure, passes, unforced}
+use Rattle.trees.specs.Check.{differs, unsure}
+use Rattle.trees.specs.Trees.{Tree}
+use Rattle.tables.specs.Bytes.{entered}
+use Rattle.tables.specs.Find.{firstTriple}
 use Rattle.tables.specs.Index.{C}
 use Rattle.bodies.specs.Draws.{treeOf}
-use Rattle.bodies.specs.Nodes.{badLength}
-use Rattle.answers.specs.Answers.{Step, Told, broken, brokenValues, faultValues, first-place, judged, step, table-byte, told, tree-number, triple-index, unlessBroken, wrongCount}
+use Rattle.answers.specs.Answers.{Told, told}
+use Rattle.answers.specs.Looks.{answered, firstRefusal, lookBytes, lookCount, lookLength, lookRules, lookTable, refuseIf}
+use Rattle.answers.specs.Refusals.{refusalTold}
+use Rattle.answers.specs.declared.Look.{Look}
+use Rattle.answers.specs.declared.Refusal.the-variants.{Contradicted, Unforced}
 use Rattle.checking.specs.declared.Answer.{Answer}
-use Rattle.checking.specs.declared.Answer.the-variants.{BadByte, BadCount, BadLength, BadTable, BadTree, Contradicted, Passes, Unforced}
+use Rattle.checking.specs.declared.Answer.the-variants.{Passes, Refused}
 
--- what PC and PI come to
-abbrev pub settled : Checked → Answer
-settled passes = Passes
-settled (contradicted i v) = Contradicted (record { index = i; byte = v })
-settled (unforced i) = Unforced i
+module _ (n : ℕ) (t : List ℕ) where
+  -- the first index with an entered triplet that differs from what T holds; the first with a triplet of T that is not forced: "The first triple in index order"
+  unfoldable pub firstDiffers : Tree → ℕ
+  firstDiffers T = firstTriple n (differs (entered t) T)
 
--- the answer for n species, the table t and the body b
-unfoldable pub checkAnswer : ℕ → List ℕ → List ℕ → Answer
-checkAnswer n t b =
-    cond (wrongCount n) BadCount
-    (cond (wrongRoom n (length t)) BadTable
-    (cond (wrongByte t) (BadByte (over t))
-    (cond (badLength (length b)) BadLength (unlessBroken BadTree (judged n b) (settled (checked n t (treeOf b)))))))
+  unfoldable pub firstUnsure : Tree → ℕ
+  firstUnsure T = firstTriple n (unsure (entered t) n T)
+
+  -- 11: "PC fails", with "triple index, table byte"
+  abbrev pub lookPC : Tree → Look
+  lookPC T = refuseIf (ltb (firstDiffers T) (C n 3)) (Contradicted (record { index = firstDiffers T; byte = getD t (firstDiffers T) 0 }))
+
+  -- 12: "PI fails", with "triple index"
+  abbrev pub lookPI : Tree → Look
+  lookPI T = refuseIf (ltb (firstUnsure T) (C n 3)) (Unforced (firstUnsure T))
+
+  abbrev pub triplesLooks : Tree → List Look
+  triplesLooks T = lookPC T ∷ lookPI T ∷ []
+
+  -- "Check: 2, 7, 8, 5, 6, 11, 12", for the body b; "The tree number is 0 where there is only one body"
+  abbrev pub checkLooks : List ℕ → List Look
+  checkLooks b = (lookCount n ∷ lookTable n (length t) ∷ lookBytes t ∷ lookLength 0 (length b) ∷ lookRules 0 n b ∷ []) ++ triplesLooks (treeOf b)
+
+abbrev pub answerOf : List Look → Answer
+answerOf l = answered (λ (a : Answer). a) Refused (firstRefusal l) Passes
+
+abbrev pub checkAnswer : ℕ → List ℕ → List ℕ → Answer
+checkAnswer n t b = answerOf (checkLooks n t b)
 
 abbrev pub checkTold : Answer → Told
 checkTold Passes = told 0 []
-checkTold BadCount = told 2 []
-checkTold BadTable = told 7 []
-checkTold (BadByte i) = told 8 (first-place i ∷ [])
-checkTold BadLength = told 5 (tree-number 0 ∷ [])
-checkTold (BadTree x) = told 6 (brokenValues x)
-checkTold (Contradicted x) = told 11 (triple-index (x .index) ∷ table-byte (x .byte) ∷ [])
-checkTold (Unforced i) = told 12 (triple-index i ∷ [])
-
-abbrev pub checkOrder : ℕ → List ℕ → List ℕ → List Step
-checkOrder n t b =
-    step 2 (wrongCount n) []
-    ∷ step 7 (wrongRoom n (length t)) []
-    ∷ step 8 (wrongByte t) (first-place (over t) ∷ [])
-    ∷ step 5 (badLength (length b)) (tree-number 0 ∷ [])
-    ∷ step 6 (broken (judged n b)) (faultValues (judged n b))
-    ∷ step 11 (ltb (firstDiffers n t (treeOf b)) (C n 3)) (triple-index (firstDiffers n t (treeOf b)) ∷ table-byte (getD t (firstDiffers n t (treeOf b)) 0) ∷ [])
-    ∷ step 12 (ltb (firstUnsure n t (treeOf b)) (C n 3)) (triple-index (firstUnsure n t (treeOf b)) ∷ [])
-    ∷ []
+checkTold (Refused x) = refusalTold x

@@ -5,9 +5,6 @@ use mathlib.Core.List.{List}
 use Prim.Native.Nat.{ℕ, zero, suc, _+_, _*_}
 use lib.Dec.{eqb, ltb}
 use lib.ListN.{length, getD, take, drop}
-use Rattle.bodies.specs.declared.Verdict.{Verdict}
-use Rattle.bodies.specs.Nodes.{nodes, badLength}
-use Rattle.bodies.specs.Faults.{fault}
 
 module _ (b : List ℕ) where
   abbrev pub version : ℕ
@@ -28,13 +25,13 @@ module _ (b : List ℕ) where
   start zero = 3
   start (suc k) = start k + 2 + lengthAt (start k)
 
-  -- tree k's body
-  abbrev pub bodyAt : ℕ → List ℕ
-  bodyAt k = take (lengthAt (start k)) (drop (start k + 2) b)
+  -- where tree k's bytes lie
+  abbrev pub bytesAt : ℕ → List ℕ
+  bytesAt k = take (lengthAt (start k)) (drop (start k + 2) b)
 
-  -- the rule that tree k breaks, if any
-  abbrev pub judged : ℕ → Verdict
-  judged k = fault k (nodes (bodyAt k)) species
+  -- tree k's body, which is what all else speaks of: its bytes as they stand
+  abbrev pub bodyAt : ℕ → List ℕ
+  bodyAt k = bytesAt k
 
   -- ---- the "when" column of document 01's table, as far as it speaks of a collection
 
@@ -58,11 +55,3 @@ module _ (b : List ℕ) where
 
   abbrev pub shortBody : ℕ → Bool
   shortBody k = ltb (length b) (start (suc k))
-
-  -- "body length 0, odd or over 254"
-  abbrev pub wrongLength : ℕ → Bool
-  wrongLength k = badLength (lengthAt (start k))
-
-  -- "bytes left over"
-  abbrev pub tooLong : Bool
-  tooLong = ltb (start trees) (length b)

@@ -1,50 +1,61 @@
--- The answer of reading, computed: the header, then tree by tree, then what is left over.
-use mathlib.Core.Bool.{cond}
-use mathlib.Core.List.{List}
+-- Reading a collection. Document 01, "Numbers handed back": "Collection: empty is 3; then 1; under three bytes is 3; 2; then for each tree, under two length
+-- bytes 3, 5, body cut 3, 6; lastly 4."
+use mathlib.Core.List.{List, [], _∷_, _++_}
 use Prim.Native.Nat.{ℕ, zero, suc, _-_}
 use lib.Dec.{ltb}
 use lib.ListN.{length}
-use Rattle.bodies.specs.declared.Verdict.{Verdict}
-use Rattle.answers.specs.Answers.{unlessBroken}
+use Rattle.answers.specs.Answers.{Told, Value, species-count, told, tree-count, value}
+use Rattle.answers.specs.Looks.{answered, firstRefusal, lookLength, lookRules, refuseIf}
+use Rattle.answers.specs.Refusals.{refusalTold}
+use Rattle.answers.specs.declared.Look.{Look}
+use Rattle.answers.specs.declared.Refusal.the-variants.{BadCounts, BadVersion, EndsEarly, LeftOver}
 use Rattle.collections.specs.declared.Answer.{Answer}
-use Rattle.collections.specs.declared.Answer.the-variants.{Good, BadVersion, BadCounts, EndsEarly, LeftOver, BadLength, BadTree}
+use Rattle.collections.specs.declared.Answer.the-variants.{Done, Refused}
+use Rattle.collections.specs.declared.Counts.{Counts}
 use Rattle.collections.specs.declared.Next.{Next}
 use Rattle.collections.specs.declared.Next.the-variants.{At, Stop}
-use Rattle.collections.specs.Layout.{species, trees, start, judged, wrongVersion, wrongCounts, noByte, shortHeader, shortLength, shortBody, wrongLength}
-
--- after a tree: where the next one starts, or the answer
-abbrev pub onward : Verdict → ℕ → Next
-onward v p = unlessBroken (λ x. Stop (BadTree x)) v (At p)
-
-abbrev pub after : Next → Answer → Answer
-after (At p) a = a
-after (Stop x) a = x
+use Rattle.collections.specs.Layout.{bodyAt, lengthAt, noByte, shortBody, shortHeader, shortLength, species, start, trees, wrongCounts, wrongVersion}
 
 module _ (b : List ℕ) where
-  unfoldable pub nextOf : ℕ → Next
-  nextOf k =
-      cond (shortLength b k) (Stop (EndsEarly k))
-      (cond (wrongLength b k) (Stop (BadLength k))
-      (cond (shortBody b k) (Stop (EndsEarly k))
-      (onward (judged b k) (start b (suc k)))))
+  -- "for each tree, under two length bytes 3, 5, body cut 3, 6"
+  abbrev pub treeLooks : ℕ → List Look
+  treeLooks k =
+      refuseIf (shortLength b k) (EndsEarly k)
+      ∷ lookLength k (lengthAt b (start b k))
+      ∷ refuseIf (shortBody b k) (EndsEarly k)
+      ∷ lookRules k (species b) (bodyAt b k)
+      ∷ []
 
-  -- tree k, and then a
-  abbrev pub treeThen : ℕ → Answer → Answer
-  treeThen k a =
-      cond (shortLength b k) (EndsEarly k)
-      (cond (wrongLength b k) (BadLength k)
-      (cond (shortBody b k) (EndsEarly k)
-      (unlessBroken BadTree (judged b k) a)))
+  -- j trees from tree k on; "lastly 4"
+  unfoldable pub looksFrom : ℕ → ℕ → List Look
+  looksFrom k zero = refuseIf (ltb (start b k) (length b)) (LeftOver (length b - start b k)) ∷ []
+  looksFrom k (suc j) = treeLooks k ++ looksFrom (suc k) j
 
-  -- j trees from tree k on, and then what is left over
-  unfoldable pub readFrom : ℕ → ℕ → Answer
-  readFrom k zero = cond (ltb (start b k) (length b)) (LeftOver (length b - start b k)) (Good (record { n = species b; trees = trees b }))
-  readFrom k (suc j) = treeThen k (readFrom (suc k) j)
+  unfoldable pub readLooks : List Look
+  readLooks =
+      refuseIf (noByte b) (EndsEarly 0)
+      ∷ refuseIf (wrongVersion b) BadVersion
+      ∷ refuseIf (shortHeader b) (EndsEarly 0)
+      ∷ refuseIf (wrongCounts b) BadCounts
+      ∷ looksFrom 0 (trees b)
 
-  unfoldable pub readAnswer : Answer
-  readAnswer =
-      cond (noByte b) (EndsEarly 0)
-      (cond (wrongVersion b) BadVersion
-      (cond (shortHeader b) (EndsEarly 0)
-      (cond (wrongCounts b) BadCounts
-      (readFrom 0 (trees b)))))
+  -- "list: n and tree count"; "Reading returns what listing returns"
+  abbrev pub countsOf : Counts
+  countsOf = record { n = species b; trees = trees b }
+
+  abbrev pub readAnswer : Answer
+  readAnswer = answered Done Refused (firstRefusal readLooks) countsOf
+
+  -- the answer of j trees from tree k on; and after tree k alone, where the next one starts
+  abbrev pub answerFrom : ℕ → ℕ → Answer
+  answerFrom k j = answered Done Refused (firstRefusal (looksFrom k j)) countsOf
+
+  abbrev pub nextOf : ℕ → Next
+  nextOf k = answered At Stop (firstRefusal (treeLooks k)) (start b (suc k))
+
+abbrev pub countValues : Counts → List Value
+countValues c = value species-count (c .n) ∷ value tree-count (c .trees) ∷ []
+
+abbrev pub readTold : Answer → Told
+readTold (Done c) = told 0 (countValues c)
+readTold (Refused x) = refusalTold x

@@ -5,7 +5,10 @@ ghost use mathlib.Core.Bool.{_||_};
 ghost use lib.Dec.{eqb, ltb};
 ghost use lib.ListN.{length};
 ghost use Rattle.collections.specs.Layout.{lengthAt, start, species, trees};
-ghost use Rattle.collections.specs.Reads.{nextOf, readFrom, readAnswer};
+ghost use Rattle.collections.specs.Reads.{nextOf, answerFrom, readAnswer};
+
+// The longest collection: its header, and 16 trees, each with two bytes of length and the longest body.
+pub const LONGEST: usize = 3 + 16 * (2 + bodies::LONGEST);
 
 // What a good collection has.
 pub struct Counts {
@@ -14,13 +17,8 @@ pub struct Counts {
 }
 
 pub enum Answer {
-    Good(Counts),
-    BadVersion,
-    BadCounts,
-    EndsEarly(usize),
-    LeftOver(usize),
-    BadLength(usize),
-    BadTree(bodies::Broken),
+    Done(Counts),
+    Refused(answers::Refusal),
 }
 
 // Where a tree's body stands: from start up to, and not with, end.
@@ -60,10 +58,10 @@ pub fn body_span(b: &[u8], k: usize) -> Span
     }
 }
 
-// After one tree: where the next one starts, or the answer.
+// After one tree: where the next one starts, or the refusal.
 enum Next {
     At(usize),
-    Stop(Answer),
+    Stop(answers::Refusal),
 }
 
 fn one_tree(b: &[u8], n: usize, k: usize, at: usize) -> Next
@@ -72,28 +70,28 @@ fn one_tree(b: &[u8], n: usize, k: usize, at: usize) -> Next
 {
     let left = b.len() - at;
     if left < 2 {
-        return Next::Stop(Answer::EndsEarly(k));
+        return Next::Stop(answers::Refusal::EndsEarly(k));
     }
     let l = length_at(b, at);
     if bodies::bad_length(l) {
-        return Next::Stop(Answer::BadLength(k));
+        return Next::Stop(answers::Refusal::BadLength(k));
     }
     if left - 2 < l {
-        return Next::Stop(Answer::EndsEarly(k));
+        return Next::Stop(answers::Refusal::EndsEarly(k));
     }
     let from = at + 2;
     let to = from + l;
     let v = bodies::first_fault(k, n, &b[from..to]);
     match v {
         bodies::Verdict::Fine => Next::At(to),
-        bodies::Verdict::Breaks(x) => Next::Stop(Answer::BadTree(x)),
+        bodies::Verdict::Breaks(x) => Next::Stop(answers::Refusal::BadTree(x)),
     }
 }
 
 // The trees, one after the other, and then what is left over.
 fn all_trees(b: &[u8], n: usize, m: usize) -> Answer
     requires { ⌜ (3 ≤ length (now b)) × (n ≡ species (now b)) × (m ≡ trees (now b)) ⌝ }
-    ensures { λ r. ⌜ r ≡ readFrom (now (b .entry)) 0 (trees (now (b .entry))) ⌝ }
+    ensures { λ r. ⌜ r ≡ answerFrom (now (b .entry)) 0 (trees (now (b .entry))) ⌝ }
 {
     let mut at = 3;
     let mut k = 0;
@@ -103,16 +101,16 @@ fn all_trees(b: &[u8], n: usize, m: usize) -> Answer
             Next::At(p) => {
                 at = p;
             }
-            Next::Stop(a) => {
-                return a;
+            Next::Stop(x) => {
+                return Answer::Refused(x);
             }
         }
         k += 1;
     }
     if at < b.len() {
-        return Answer::LeftOver(b.len() - at);
+        return Answer::Refused(answers::Refusal::LeftOver(b.len() - at));
     }
-    Answer::Good(Counts { n: n, trees: m })
+    Answer::Done(Counts { n: n, trees: m })
 }
 
 // Is n 0 or over 64, or are there over 16 trees?
@@ -133,18 +131,18 @@ pub fn read(b: &[u8]) -> Answer
     ensures { λ r. ⌜ r ≡ readAnswer (now (b .entry)) ⌝ }
 {
     if b.len() == 0 {
-        return Answer::EndsEarly(0);
+        return Answer::Refused(answers::Refusal::EndsEarly(0));
     }
     if b[0] != 1 {
-        return Answer::BadVersion;
+        return Answer::Refused(answers::Refusal::BadVersion);
     }
     if b.len() < 3 {
-        return Answer::EndsEarly(0);
+        return Answer::Refused(answers::Refusal::EndsEarly(0));
     }
     let n = wide(b[1]);
     let m = wide(b[2]);
     if wrong_counts(n, m) {
-        return Answer::BadCounts;
+        return Answer::Refused(answers::Refusal::BadCounts);
     }
     all_trees(b, n, m)
 }

@@ -3,14 +3,20 @@
 use mathlib.Core.Bool.{Bool, _&&_, _||_, cond, false, not}
 use mathlib.Core.List.{List, [], _∷_}
 use Prim.Native.Nat.{suc, ℕ}
-use lib.Dec.{eqb, ltb}
+use lib.Dec.{ltb}
 use lib.ListN.{getD, length, replicate}
 use Rattle.tables.specs.Bytes.{enter}
 use Rattle.tables.specs.Filled.{tableFor}
 use Rattle.tables.specs.Index.{C}
 use Rattle.trees.specs.Triplets.{Triplets, both, different, only}
+use Rattle.answers.specs.Answers.{Told, species-count, told, value}
+use Rattle.answers.specs.Looks.{Settled, after, answered, firstRefusal, lookCount, lookTable, refuseIf}
+use Rattle.answers.specs.Refusals.{refusalTold}
+use Rattle.answers.specs.declared.Look.{Look}
+use Rattle.answers.specs.declared.Refusal.the-variants.{BadRecord}
 use Rattle.entering.specs.declared.Answer.{Answer}
-use Rattle.entering.specs.declared.Answer.the-variants.{BadCount, BadRecord, BadTable, Done}
+use Rattle.entering.specs.declared.Answer.the-variants.{Done, Refused}
+use Rattle.entering.specs.declared.Entry.{Entry}
 
 -- the three numbers of a record, left right|outer
 abbrev pub left : List ℕ → ℕ
@@ -40,30 +46,43 @@ fill [] t = t
 fill (r ∷ rs) t = fill rs (enter t (left r) (right r) (outer r))
 
 -- the triplets that the records say
-unfoldable pub among : List (List ℕ) → Triplets
-among [] a b c = false
-among (r ∷ rs) a b c = both (only (left r) (right r) (outer r)) (among rs) a b c
+unfoldable pub inRecords : List (List ℕ) → Triplets
+inRecords [] a b c = false
+inRecords (r ∷ rs) a b c = both (only (left r) (right r) (outer r)) (inRecords rs) a b c
 
 -- a table of n species that says nothing
 abbrev pub zeros : ℕ → List ℕ
 zeros n = replicate (C n 3) 0
 
--- "Entering: 2, 7, 13", for n species, m records of which the first bad one is k, and a table of l bytes; "entering returns n"
-unfoldable pub settled : ℕ → ℕ → ℕ → ℕ → Answer
-settled n m k l =
-    cond (eqb n 0 || ltb 64 n) BadCount
-    (cond (not (eqb l (C n 3))) BadTable (cond (ltb k m) (BadRecord k) (Done (record { n = n }))))
+-- "Entering: 2, 7, 13", for n species, m records of which the first bad one is k, and a table of l bytes
+abbrev pub decidedLooks : ℕ → ℕ → ℕ → ℕ → List Look
+decidedLooks n m k l = lookCount n ∷ lookTable n l ∷ refuseIf (ltb k m) (BadRecord k) ∷ []
 
-unfoldable pub enterAnswer : ℕ → List (List ℕ) → ℕ → Answer
-enterAnswer n rs l = settled n (length rs) (firstBad n rs) l
+-- "entering returns n"
+abbrev pub entry : ℕ → Entry
+entry n = record { n = n }
 
--- "Every number but 0 changes no lent byte. On 0, listing and entering fill the whole table."
-unfoldable pub enterContent : Answer → ℕ → List (List ℕ) → List ℕ → List ℕ
-enterContent (Done e) n rs t = tableFor n (among rs)
-enterContent BadCount n rs t = t
-enterContent BadTable n rs t = t
-enterContent (BadRecord i) n rs t = t
+unfoldable pub decided : ℕ → ℕ → ℕ → ℕ → Answer
+decided n m k l = answered Done Refused (firstRefusal (decidedLooks n m k l)) (entry n)
 
--- what the table holds afterwards
+-- the same for the records rs
+abbrev pub enterLooks : ℕ → List (List ℕ) → ℕ → List Look
+enterLooks n rs l = decidedLooks n (length rs) (firstBad n rs) l
+
+-- the table of the records rs: "On 0, listing and entering fill the whole table"
+abbrev pub enterOf : ℕ → List (List ℕ) → List ℕ
+enterOf n rs = tableFor n (inRecords rs)
+
+-- t is the table before, r the answer, t′ the table after
+abbrev pub Enters : ℕ → List (List ℕ) → List ℕ → Answer → List ℕ → Type 0
+Enters n rs t r t′ = Settled Done Refused (enterLooks n rs (length t)) (entry n) (enterOf n rs) t r t′
+
+abbrev pub enterAnswer : ℕ → List (List ℕ) → ℕ → Answer
+enterAnswer n rs l = answered Done Refused (firstRefusal (enterLooks n rs l)) (entry n)
+
 abbrev pub enterAfter : ℕ → List (List ℕ) → List ℕ → List ℕ
-enterAfter n rs t = enterContent (enterAnswer n rs (length t)) n rs t
+enterAfter n rs t = after (firstRefusal (enterLooks n rs (length t))) (enterOf n rs) t
+
+abbrev pub enterTold : Answer → Told
+enterTold (Done e) = told 0 (value species-count (e .n) ∷ [])
+enterTold (Refused x) = refusalTold x

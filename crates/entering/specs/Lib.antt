@@ -1,5 +1,3 @@
 -- Entering a list of triplets: definitions only. What is proved of them stands in `proofs/`.
 pub mod Enters
 pub mod Passes
-pub mod Spelled
-pub mod Order

@@ -1,4 +1,4 @@
--- The two passes of entering. The first one only reads; then the answer is settled, and where nothing is refused the table is cleared; the second one
+-- The two passes of entering. The first one only reads; then the answer is decided, and where nothing is refused the table is cleared; the second one
 -- fills it. Document 01, "Numbers handed back": "Every number but 0 changes no lent byte."
 use mathlib.Core.List.{List}
 use mathlib.Core.Path.{_≡_}
@@ -6,23 +6,19 @@ use Prim.Native.Nat.{_≤_, ℕ}
 use lib.ListN.{length, replicate}
 use Rattle.tables.specs.Index.{C}
 use Rattle.entering.specs.declared.Answer.{Answer}
-use Rattle.entering.specs.declared.Answer.the-variants.{BadCount, BadRecord, BadTable, Done}
+use Rattle.entering.specs.declared.Answer.the-variants.{Done, Refused}
 use Rattle.entering.specs.declared.Entry.{Entry}
 use Rattle.entering.specs.Enters.{fill, firstBad}
 
 -- the table before it is filled
 unfoldable pub cleared : Answer → List ℕ → List ℕ
 cleared (Done e) t = replicate (length t) 0
-cleared BadCount t = t
-cleared BadTable t = t
-cleared (BadRecord i) t = t
+cleared (Refused x) t = t
 
 -- the table after it was filled, where nothing was refused
 unfoldable pub filled : Answer → List (List ℕ) → List ℕ → List ℕ
 filled (Done e) rs t = fill rs t
-filled BadCount rs t = t
-filled BadTable rs t = t
-filled (BadRecord i) rs t = t
+filled (Refused x) rs t = t
 
 -- where nothing was refused, all records are good and the table is as long as it must be
 pub record Ready (r : Answer) (rs : List (List ℕ)) (t : List ℕ) : Type 0 where

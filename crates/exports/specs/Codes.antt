@@ -1,10 +1,13 @@
 -- What document 01 returns with a number, as plain numbers laid into lent room. Document 01, "Numbers handed back".
 use mathlib.Core.List.{List, [], _∷_, _++_}
+use mathlib.Core.Path.{_≡_}
 use Prim.Native.Nat.{ℕ}
 use Rattle.bodies.specs.declared.Fault.{Fault}
 use Rattle.bodies.specs.declared.Fault.the-variants.{BadParent, BadSpecies, SeenBefore, OnlyChild}
-use Rattle.answers.specs.Answers.{Told, Exact}
-use Rattle.saying.specs.Plain.{Item, plain-number, broken-rule, Plain, plain}
+use Rattle.tables.specs.declared.Named.{Named}
+use Rattle.tables.specs.declared.Named.the-variants.{Known, Beyond}
+use Rattle.answers.specs.Answers.{Told}
+use Rattle.replies.specs.Plain.{Item, plain-number, broken-rule, Plain, plain}
 
 -- which fault, 1 to 4 in document 01's order, and its own data: "bad parent (that parent), bad species (it), species seen before (the earlier
 -- node), or only child", which has none and gives 0
@@ -29,9 +32,21 @@ laid (v ∷ vs) [] = []
 laid (v ∷ vs) (x ∷ o) = v ∷ laid vs o
 
 -- p was laid down: its number is the result r, and its items are laid over o, which gives o'
-abbrev pub Lays : Plain → List ℕ → ℕ → List ℕ → Type 0
-Lays p o r o' = Exact (p .number) (laid (codes (p .items)) o) r o'
+pub record Lays (p : Plain) (o : List ℕ) (r : ℕ) (o' : List ℕ) : Type 0 where
+  pub is : r ≡ p .number
+  pub holds : o' ≡ laid (codes (p .items)) o
 
 -- what is told was handed back
 abbrev pub Handed : Told → List ℕ → ℕ → List ℕ → Type 0
 Handed t = Lays (plain t)
+
+-- Is there a triple with a given index? Document 01 names no refusal for an index beyond its triples ("(61,62,63) has 41,663"), so this is a question:
+-- 1 for yes, 0 for no
+abbrev pub tripleAnswer : Named → ℕ
+tripleAnswer (Known t) = 1
+tripleAnswer Beyond = 0
+
+-- and what is laid down with it: "three species a < b < c", or nothing
+abbrev pub tripleSpecies : Named → List ℕ
+tripleSpecies (Known t) = t .low ∷ t .mid ∷ t .high ∷ []
+tripleSpecies Beyond = []

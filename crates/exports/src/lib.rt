@@ -2,16 +2,15 @@
 ghost use mathlib.Core.Path.{_≡_};
 ghost use mathlib.Core.List.{[], _∷_};
 ghost use lib.ListN.{length, set};
-ghost use Rattle.collections.specs.Reads.{readAnswer};
-ghost use Rattle.collections.specs.Order.{answerTold};
-ghost use Rattle.listing.specs.Lists.{listAnswer, listAfter, listTold};
-ghost use Rattle.entering.specs.Enters.{enterAnswer, enterAfter};
-ghost use Rattle.entering.specs.Order.{enterTold};
+ghost use Rattle.collections.specs.Reads.{readAnswer, readTold};
+ghost use Rattle.listing.specs.Lists.{listAnswer, listAfter};
+ghost use Rattle.entering.specs.Enters.{enterAnswer, enterAfter, enterTold};
 ghost use Rattle.ordering.specs.Orders.{orderAnswer, orderAfter, orderTold};
 ghost use Rattle.building.specs.Builds.{buildAnswer, buildAfter, buildTold};
 ghost use Rattle.checking.specs.Checks.{checkAnswer, checkTold};
-ghost use Rattle.saying.specs.Spoken.{spoken};
-ghost use Rattle.exports.specs.Codes.{faultCode, Lays, Handed};
+ghost use Rattle.replies.specs.Replied.{replied};
+ghost use Rattle.tables.specs.Named.{named};
+ghost use Rattle.exports.specs.Codes.{faultCode, laid, Lays, Handed, tripleAnswer, tripleSpecies};
 
 // A fault by two numbers.
 struct FaultCode {
@@ -45,22 +44,22 @@ fn put(values: &mut [usize], i: usize, x: usize)
     }
 }
 
-// Lays down what is said of an answer: writes its values, and answers its number.
-fn lay(s: saying::Said, values: &mut [usize]) -> usize
-    ensures { λ r. ⌜ Lays (spoken s) (now (values .entry)) r (now (values .exit)) ⌝ }
+// Lays down a reply: writes its values, and answers its number.
+fn lay(s: replies::Reply, values: &mut [usize]) -> usize
+    ensures { λ r. ⌜ Lays (replied s) (now (values .entry)) r (now (values .exit)) ⌝ }
 {
     match s {
-        saying::Said::Bare(k) => k,
-        saying::Said::One(k, x) => {
+        replies::Reply::Bare(k) => k,
+        replies::Reply::One(k, x) => {
             put(values, 0, x);
             k
         }
-        saying::Said::Two(k, x, y) => {
+        replies::Reply::Two(k, x, y) => {
             put(values, 0, x);
             put(values, 1, y);
             k
         }
-        saying::Said::Broken(x) => {
+        replies::Reply::Broken(x) => {
             let fault = x.fault;
             let f = fault_code(fault);
             put(values, 0, x.tree);
@@ -75,19 +74,19 @@ fn lay(s: saying::Said, values: &mut [usize]) -> usize
 // Reads a collection.
 #[no_mangle]
 pub extern "C" fn koodhaxil_read(b: &[u8], values: &mut [usize]) -> usize
-    ensures { λ r. ⌜ Handed (answerTold (readAnswer (now (b .entry)))) (now (values .entry)) r (now (values .exit)) ⌝ }
+    ensures { λ r. ⌜ Handed (readTold (readAnswer (now (b .entry)))) (now (values .entry)) r (now (values .exit)) ⌝ }
 {
-    lay(saying::read(collections::read(b)), values)
+    lay(replies::read(collections::read(b)), values)
 }
 
 // Lists a collection into the table t. A refusal leaves every byte of t as it was.
 #[no_mangle]
 pub extern "C" fn koodhaxil_list(b: &[u8], t: &mut [u8], values: &mut [usize]) -> usize
-    ensures { λ r. ⌜ Handed (listTold (listAnswer (now (b .entry)) (length (now (t .entry))))) (now (values .entry)) r (now (values .exit)) ⌝ }
+    ensures { λ r. ⌜ Handed (readTold (listAnswer (now (b .entry)) (length (now (t .entry))))) (now (values .entry)) r (now (values .exit)) ⌝ }
     ensures { λ _. ⌜ now (t .exit) ≡ listAfter (now (b .entry)) (now (t .entry)) ⌝ }
 {
     let a = listing::list(b, t);
-    lay(saying::list(a), values)
+    lay(replies::read(a), values)
 }
 
 // Enters records of three numbers into the table t. A refusal leaves every byte of t as it was.
@@ -102,7 +101,7 @@ pub extern "C" fn koodhaxil_enter(
     ensures { λ _. ⌜ now (t .exit) ≡ enterAfter n (now (records .entry)) (now (t .entry)) ⌝ }
 {
     let a = entering::enter(n, records, t);
-    lay(saying::enter(a), values)
+    lay(replies::enter(a), values)
 }
 
 // Puts a tree in house order, to the front of the room. A refusal leaves every byte of the room as it was.
@@ -117,7 +116,7 @@ pub extern "C" fn koodhaxil_order(
     ensures { λ _. ⌜ now (room .exit) ≡ orderAfter n (now (body .entry)) (now (room .entry)) ⌝ }
 {
     let a = ordering::order(n, body, room);
-    lay(saying::order(a), values)
+    lay(replies::order(a), values)
 }
 
 // Builds the tree of the table t, to the front of the room. A refusal leaves every byte of the room as it was.
@@ -132,7 +131,7 @@ pub extern "C" fn koodhaxil_build(
     ensures { λ _. ⌜ now (room .exit) ≡ buildAfter n (now (t .entry)) (now (room .entry)) ⌝ }
 {
     let a = building::build(n, t, room);
-    lay(saying::build(a), values)
+    lay(replies::build(a), values)
 }
 
 // Checks the tree of a body against the table t.
@@ -140,5 +139,24 @@ pub extern "C" fn koodhaxil_build(
 pub extern "C" fn koodhaxil_check(n: usize, t: &[u8], body: &[u8], values: &mut [usize]) -> usize
     ensures { λ r. ⌜ Handed (checkTold (checkAnswer n (now (t .entry)) (now (body .entry)))) (now (values .entry)) r (now (values .exit)) ⌝ }
 {
-    lay(saying::check(checking::check(n, t, body)), values)
+    lay(replies::check(checking::check(n, t, body)), values)
+}
+
+// Is there a triple with this index? It is a question, so that its answer is none of document 01's numbers: 1 for yes, with the three species laid into
+// `values`, and 0 for no, which leaves `values` as it was.
+#[no_mangle]
+pub extern "C" fn koodhaxil_triple(index: usize, values: &mut [usize]) -> usize
+    ensures { λ r. ⌜ r ≡ tripleAnswer (named index) ⌝ }
+    ensures { λ _. ⌜ now (values .exit) ≡ laid (tripleSpecies (named index)) (now (values .entry)) ⌝ }
+{
+    let t = tables::triple_at(index);
+    match t {
+        tables::Named::Known(x) => {
+            put(values, 0, x.low);
+            put(values, 1, x.mid);
+            put(values, 2, x.high);
+            1
+        }
+        tables::Named::Beyond => 0,
+    }
 }

@@ -1,4 +1,3 @@
 -- The laws of putting a tree in house order.
-pub mod Todo
-pub mod Answered
-pub mod Demand1
+pub mod InTurn
+pub mod Ready

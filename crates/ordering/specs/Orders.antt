@@ -1,53 +1,38 @@
--- Putting a tree in house order. Document 01, "Numbers handed back": "House order: 2, 5, 6, 9 (room shorter than the body)"; "The tree number is 0
--- where there is only one body"; "order and build: node count".
-use mathlib.Core.Bool.{Bool, cond}
+-- Putting a tree in house order. Document 01, "Numbers handed back".
 use mathlib.Core.List.{List, [], _∷_}
 use Prim.Native.Nat.{ℕ}
-use lib.Dec.{ltb}
 use lib.ListN.{length}
-use Rattle.bodies.specs.Nodes.{nodes, badLength}
+use Rattle.bodies.specs.Nodes.{nodes}
 use Rattle.bodies.specs.Draws.{ordered, written}
-use Rattle.answers.specs.Answers.{Value, node-count, tree-number, Told, told, Step, step, wrongCount, broken, brokenValues, faultValues, judged, unlessBroken}
+use Rattle.answers.specs.Answers.{Told, node-count, told, value}
+use Rattle.answers.specs.Looks.{Settled, after, answered, firstRefusal, lookCount, lookLength, lookRoom, lookRules}
+use Rattle.answers.specs.Refusals.{refusalTold}
+use Rattle.answers.specs.declared.Look.{Look}
+use Rattle.answers.specs.declared.Written.{Written}
 use Rattle.ordering.specs.declared.Answer.{Answer}
-use Rattle.ordering.specs.declared.Answer.the-variants.{Done, BadCount, BadLength, BadTree, ShortRoom}
+use Rattle.ordering.specs.declared.Answer.the-variants.{Done, Refused}
 
--- "room shorter than the body", for a room of l bytes
-abbrev pub shortRoom : List ℕ → ℕ → Bool
-shortRoom b l = ltb l (length b)
+-- "House order: 2, 5, 6, 9 (room shorter than the body)", for the body b and a room of l bytes; "The tree number is 0 where there is only one body"
+abbrev pub orderLooks : ℕ → List ℕ → ℕ → List Look
+orderLooks n b l = lookCount n ∷ lookLength 0 (length b) ∷ lookRules 0 n b ∷ lookRoom (length b) l ∷ []
 
--- the answer for n species, the body b and a room of l bytes
-unfoldable pub orderAnswer : ℕ → List ℕ → ℕ → Answer
-orderAnswer n b l =
-    cond (wrongCount n) BadCount
-    (cond (badLength (length b)) BadLength
-    (unlessBroken BadTree (judged n b) (cond (shortRoom b l) ShortRoom (Done (record { nodes = nodes b .count })))))
+-- on 0: "order and build: node count"; "order and build write the body and change nothing behind it", for the room o
+abbrev pub orderDone : List ℕ → Written
+orderDone b = record { nodes = nodes b .count }
 
--- "Every number but 0 changes no lent byte. On 0 [..] order and build write the body and change nothing behind it."
-unfoldable pub orderContent : Answer → List ℕ → List ℕ → List ℕ
-orderContent (Done w) b o = written o (ordered b)
-orderContent BadCount b o = o
-orderContent BadLength b o = o
-orderContent (BadTree x) b o = o
-orderContent ShortRoom b o = o
+abbrev pub orderRoom : List ℕ → List ℕ → List ℕ
+orderRoom b o = written o (ordered b)
 
--- what the room o holds afterwards
+-- o is the room before, r the answer, o′ the room after
+abbrev pub Orders : ℕ → List ℕ → List ℕ → Answer → List ℕ → Type 0
+Orders n b o r o′ = Settled Done Refused (orderLooks n b (length o)) (orderDone b) (orderRoom b o) o r o′
+
+abbrev pub orderAnswer : ℕ → List ℕ → ℕ → Answer
+orderAnswer n b l = answered Done Refused (firstRefusal (orderLooks n b l)) (orderDone b)
+
 abbrev pub orderAfter : ℕ → List ℕ → List ℕ → List ℕ
-orderAfter n b o = orderContent (orderAnswer n b (length o)) b o
+orderAfter n b o = after (firstRefusal (orderLooks n b (length o))) (orderRoom b o) o
 
 abbrev pub orderTold : Answer → Told
-orderTold (Done w) = told 0 (node-count (w .nodes) ∷ [])
-orderTold BadCount = told 2 []
-orderTold BadLength = told 5 (tree-number 0 ∷ [])
-orderTold (BadTree x) = told 6 (brokenValues x)
-orderTold ShortRoom = told 9 []
-
-abbrev pub orderOrder : ℕ → List ℕ → ℕ → List Step
-orderOrder n b l =
-    step 2 (wrongCount n) []
-    ∷ step 5 (badLength (length b)) (tree-number 0 ∷ [])
-    ∷ step 6 (broken (judged n b)) (faultValues (judged n b))
-    ∷ step 9 (shortRoom b l) []
-    ∷ []
-
-abbrev pub orderValues : List ℕ → List Value
-orderValues b = node-count (nodes b .count) ∷ []
+orderTold (Done w) = told 0 (value node-count (w .nodes) ∷ [])
+orderTold (Refused x) = refusalTold x

@@ -11,14 +11,16 @@ use Rattle.trees.specs.Triplets.{holds}
 use Rattle.tables.specs.Filled.{tableFor}
 use Rattle.tables.specs.Index.{C}
 use Rattle.bodies.specs.Draws.{treeOf}
-use Rattle.bodies.specs.Nodes.{Good, badLength, nodes}
+use Rattle.bodies.specs.Nodes.{Good, badLength, nodes, roomFor}
 use Rattle.collections.specs.Collection.{Collection}
 use Rattle.collections.specs.Layout.{bodyAt, lengthAt, start}
-use Rattle.listing.specs.Lists.{said}
-use Rattle.promises.specs.Candidates.{Given, lists}
-use Rattle.promises.specs.Demand2.{Body, Count}
+use Rattle.listing.specs.Lists.{heldUpTo}
+use Rattle.promises.specs.Operations.{Given, lists}
+use Rattle.answers.specs.Inputs.{Body, Count, Table}
+use Rattle.promises.specs.Inputs.{Buildable}
 use Rattle.promises.specs.Demand3.{alone, tableOf}
 use Rattle.promises.proofs.Listed.{lists-is}
+use Rattle.promises.proofs.Tabled.{table-good}
 
 module _ (n : ℕ) (b : List ℕ) where
   alone-long : lengthAt (alone n b) (start (alone n b) 0) ≡ length b
@@ -59,9 +61,13 @@ module _ (n : ℕ) (b : List ℕ) where
         good zero l = subst (λ (u : List ℕ). Good n (nodes u)) (sym alone-body) (g .good)
         good (suc k) l = absurd (omega arith)
 
-    alone-said : said (alone n b) 1 ≡ holds (treeOf b)
-    unfolding said
-    alone-said = fun-ext (λ x. fun-ext (λ y. fun-ext (λ z. ap (λ (u : List ℕ). holds (treeOf u) x y z) alone-body)))
+    alone-held : heldUpTo (alone n b) 1 ≡ holds (treeOf b)
+    unfolding heldUpTo
+    alone-held = fun-ext (λ x. fun-ext (λ y. fun-ext (λ z. ap (λ (u : List ℕ). holds (treeOf u) x y z) alone-body)))
 
     pub alone-table : (t : List ℕ) → length t ≡ C n 3 → tableOf lists n b t ≡ tableFor n (holds (treeOf b))
-    alone-table t l = ap (λ (h : Given). h .after) (lists-is (alone n b) alone-collection t l) ∙ ap (tableFor n) alone-said
+    alone-table t l = ap (λ (h : Given). h .after) (lists-is (alone n b) t (record { collection = alone-collection; long = l })) ∙ ap (tableFor n) alone-held
+
+    -- it may be handed to a builder
+    pub alone-buildable : (t o : List ℕ) → length t ≡ C n 3 → roomFor n ≤ length o → Buildable n (tableOf lists n b t) o
+    alone-buildable t o l room = record { count = c; table = subst (Table n) (sym (alone-table t l)) (table-good n (holds (treeOf b))); room = room }

@@ -1,13 +1,13 @@
 -- Checking a good tree against a good table: 0, 11 or 12, each exactly where it says so over trees. Assumes nothing.
-use mathlib.Core.Bool.{Bool, So, cond, false, true}
-use mathlib.Core.List.{List}
+use mathlib.Core.Bool.{Bool, So, false, true}
+use mathlib.Core.List.{List, [], _∷_}
 use mathlib.Core.Logic.{_↔_, inl, inr, ⊎-elim}
-use mathlib.Core.Path.{_≡_, refl, subst, sym}
+use mathlib.Core.Path.{_∙_, _≡_, ap, refl, subst, sym}
 use Prim.Native.Nat.{_<_, ℕ}
 use native.Mathlib.Omega.{arith}
-use borrow.Author.Tests.{eq-eqb, lt-ltb, ltb-false, ltb-true}
+use borrow.Author.Tests.{lt-ltb, ltb-false, ltb-true}
 use lib.Dec.{ltb}
-use lib.ListN.{getD, length}
+use lib.ListN.{getD}
 use Rattle.sets.proofs.Bools.{and-i, and-l, and-r, not-e, not-i, or-case, or-l, or-r}
 use Rattle.sets.proofs.Members.{all-below}
 use Rattle.sets.specs.Species.{Below, Inside, below}
@@ -18,31 +18,38 @@ use Rattle.trees.specs.Triplets.{Triplets, holds, onTriple}
 use Rattle.tables.proofs.Bytes.{entered-proper}
 use Rattle.tables.proofs.Find.{first-found}
 use Rattle.tables.proofs.Indices.{triple-back}
-use Rattle.tables.proofs.Passing.{pc-first, pi-first}
+use Rattle.checking.proofs.Passing.{pc-first, pi-first}
 use Rattle.tables.specs.Bytes.{entered}
-use Rattle.tables.specs.Checked.{checked, contradicted, firstDiffers, firstUnsure, passes, unforced}
-use Rattle.tables.specs.Find.{first}
+use Rattle.tables.specs.Find.{firstTriple}
 use Rattle.tables.specs.Index.{C, highAt, lowAt, midAt}
 use Rattle.bodies.proofs.Drawn.{tree-below, tree-formed}
-use Rattle.bodies.proofs.Rules.{length-good, no-fault}
+use Rattle.bodies.proofs.Rules.{length-good}
 use Rattle.bodies.specs.Draws.{treeOf}
 use Rattle.bodies.specs.Nodes.{nodes}
-use Rattle.checking.specs.Checks.{checkAnswer, checkTold, settled}
+use Rattle.answers.proofs.Answered.{first-on, told-first}
+use Rattle.answers.specs.Answers.{Told}
+use Rattle.answers.specs.Looks as Looks
+use Rattle.answers.specs.Looks.{answered, lookTold, refuseIf}
+use Rattle.answers.specs.declared.Look.{Look}
+use Rattle.answers.specs.declared.Refusal.the-variants.{Contradicted}
+use Rattle.answers.specs.declared.Refusal.the-variants.{Unforced as Unforced′}
+use Rattle.checking.specs.Checks.{checkLooks, checkTold, firstDiffers, firstUnsure, triplesLooks}
 use Rattle.checking.specs.declared.Answer.{Answer}
-use Rattle.promises.specs.Candidates.{checks}
-use Rattle.promises.specs.Demand2.{Body, Checks, Contradicts, Count, FirstTriple, Loose, Table, Unforced}
-use Rattle.promises.proofs.Gives.{count-right}
-use Rattle.promises.proofs.Tabled.{byte-right}
+use Rattle.checking.specs.declared.Answer.the-variants.{Passes, Refused}
+use Rattle.promises.specs.Operations.{checks}
+use Rattle.promises.specs.Inputs.{Checkable}
+use Rattle.promises.specs.Demand2.{ChecksRight, Contradicts, FirstTriple, Loose, Unforced}
+use Rattle.promises.proofs.Accepted.{bothLooks, check-pass}
 
 -- the first index is that of the first triple
-first-triple : (n : ℕ) (P : Triplets) → first n P < C n 3 → FirstTriple n (λ a b c. So (onTriple P a b c)) (first n P)
+first-triple : (n : ℕ) (P : Triplets) → firstTriple n P < C n 3 → FirstTriple n (λ a b c. So (onTriple P a b c)) (firstTriple n P)
 first-triple n P l =
-    let r = triple-back n (first n P) l in
+    let r = triple-back n (firstTriple n P) l in
     let f = first-found n P l in
     record {
-      low = lowAt n (first n P);
-      mid = midAt n (first n P);
-      high = highAt n (first n P);
+      low = lowAt n (firstTriple n P);
+      mid = midAt n (firstTriple n P);
+      high = highAt n (firstTriple n P);
       triple = (r .0, r .1, r .2);
       place = sym (r .3);
       here = f .0;
@@ -94,12 +101,12 @@ module _ (n : ℕ) (t : List ℕ) (T : Tree) (f : So (wellFormed T)) (bd : Below
   j = firstUnsure n t T
 
   told-of : (p q : Bool) → ltb i (C n 3) ≡ p → ltb j (C n 3) ≡ q
-      → Checks n t (below n) T (checkTold (settled (cond p (contradicted i (getD t i 0)) (cond q (unforced j) passes))))
+      → ChecksRight n t (below n) T (lookTold (Looks.firstRefusal (refuseIf p (Contradicted (record { index = i; byte = getD t i 0 })) ∷ refuseIf q (Unforced′ j) ∷ [])) [])
   unfolding firstDiffers firstUnsure
   told-of true q p′ q′ =
       let w = first-triple n (differs (entered t) T) (ltb-true i (C n 3) p′) in
       record {
-        settled = inr (inl refl);
+        one-of = inr (inl refl);
         passes = ((λ z. absurd (omega (arith, z))), λ h. absurd (h .0 (w .low) (w .mid) (w .high) (w .here)));
         fails = ((λ z pc. none-contradicts pc (w .low) (w .mid) (w .high) (w .here)), λ no. refl);
         contradicted = λ z. (i, refl, w);
@@ -109,7 +116,7 @@ module _ (n : ℕ) (t : List ℕ) (T : Tree) (f : So (wellFormed T)) (bd : Below
       let pc = pc-first n t T f inside .1 (ltb-false i (C n 3) p′) in
       let l = ltb-true j (C n 3) q′ in
       record {
-        settled = inr (inr refl);
+        one-of = inr (inr refl);
         passes = ((λ z. absurd (omega (arith, z))), λ h. absurd (omega (arith, l, pi-first n t T f inside pc .0 (h .1))));
         fails = ((λ z. absurd (omega (arith, z))), λ no. absurd (no pc));
         contradicted = λ z. absurd (omega (arith, z));
@@ -118,22 +125,23 @@ module _ (n : ℕ) (t : List ℕ) (T : Tree) (f : So (wellFormed T)) (bd : Below
   told-of false false p′ q′ =
       let pc = pc-first n t T f inside .1 (ltb-false i (C n 3) p′) in
       record {
-        settled = inl refl;
+        one-of = inl refl;
         passes = ((λ z. (none-contradicts pc, pi-first n t T f inside pc .1 (ltb-false j (C n 3) q′))), λ h. refl);
         fails = ((λ z. absurd (omega (arith, z))), λ no. absurd (no pc));
         contradicted = λ z. absurd (omega (arith, z));
         unforced = λ z. absurd (omega (arith, z));
       }
 
-module _ (n : ℕ) (t b : List ℕ) (c : Count n) (g : Table n t) (w : Body n b) where
-  pub checks-tree : checkAnswer n t b ≡ settled (checked n t (treeOf b))
-  unfolding checkAnswer
-  checks-tree = rw (count-right n c, eq-eqb (length t) (C n 3) (g .long), byte-right n t g, w .long, no-fault 0 n (nodes b) .1 (w .good)) refl
+pub check-told : (k : Look) → checkTold (answered (λ (a : Answer). a) Refused k Passes) ≡ lookTold k []
+check-told k = told-first checkTold (λ (a : Answer). a) Refused Passes refl (λ x. refl) k
+
+module _ (n : ℕ) (t b : List ℕ) (g : Checkable n t b) where
+  pub checks-tree : checks n t b ≡ lookTold (Looks.firstRefusal (triplesLooks n t (treeOf b))) []
+  checks-tree = check-told (Looks.firstRefusal (checkLooks n t b)) ∙ ap (λ (k : Look). lookTold k []) (first-on (bothLooks n t b) (triplesLooks n t (treeOf b)) (check-pass n t b .1 g))
 
   some : 0 < nodes b .count
-  some = length-good (length b) (w .long) .0
+  some = length-good b (g .body .long) .0
 
-  pub good-checked : Checks n t (below n) (treeOf b) (checks n t b)
-  unfolding checked
-  good-checked = subst (λ (a : Answer). Checks n t (below n) (treeOf b) (checkTold a)) (sym checks-tree)
-      (told-of n t (treeOf b) (tree-formed n (nodes b) (w .good) some) (tree-below n (nodes b) (w .good) some) _ _ refl refl)
+  pub good-checked : ChecksRight n t (below n) (treeOf b) (checks n t b)
+  good-checked = subst (λ (r : Told). ChecksRight n t (below n) (treeOf b) r) (sym checks-tree)
+      (told-of n t (treeOf b) (tree-formed n (nodes b) (g .body .good) some) (tree-below n (nodes b) (g .body .good) some) _ _ refl refl)

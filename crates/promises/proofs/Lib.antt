@@ -1,8 +1,7 @@
 -- The three demands, proved. `Promises` is the page to read; the other files hold what it takes.
-pub mod Gives
-pub mod Kept
+pub mod Accepted
+pub mod Chosen
 pub mod Tabled
-pub mod Read
 pub mod Listed
 pub mod Entered
 pub mod Wrote
@@ -12,6 +11,9 @@ pub mod Alone
 pub mod Rebuilt
 pub mod Promises
 pub mod Checked
+pub mod Star
 pub mod Useless
 pub mod Runs
 pub mod Own
+pub mod Ties
+pub mod Forms

@@ -2,23 +2,21 @@
 use mathlib.Core.Bool.{So}
 use mathlib.Core.List.{List, [], _∷_}
 use mathlib.Core.Path.{_∙_, _≡_, ap, refl, subst, sym}
-use Prim.Native.Nat.{_*_, _≤_, ℕ}
+use Prim.Native.Nat.{_≤_, ℕ}
 use native.Mathlib.Omega.{arith}
-use borrow.Author.Tests.{le-ltb}
 use lib.ListN.{length}
 use Rattle.trees.proofs.Theorems.{HouseOrder, house-order}
 use Rattle.trees.specs.Trees.{SameGroups, Tree, house, inHouseOrder}
 use Rattle.bodies.proofs.Houses.{good-formed, ordered-badLength, ordered-good, ordered-length, ordered-tree}
-use Rattle.bodies.proofs.Rules.{length-good, no-fault}
+use Rattle.bodies.proofs.Rules.{length-good}
 use Rattle.bodies.specs.Draws.{bodyOf, ordered, treeOf, written}
-use Rattle.bodies.specs.Nodes.{nodes, width}
-use Rattle.answers.specs.Answers.{node-count, told}
-use Rattle.ordering.specs.Orders.{orderAnswer, orderContent, orderTold}
-use Rattle.ordering.specs.declared.Answer.{Answer}
-use Rattle.ordering.specs.declared.Answer.the-variants.{Done}
-use Rattle.promises.specs.Candidates.{Given, gives, orders}
-use Rattle.promises.specs.Demand2.{Body, Count, HouseBody, Orders, front}
-use Rattle.promises.proofs.Gives.{count-right}
+use Rattle.bodies.specs.Nodes.{bodyLength, nodes}
+use Rattle.answers.specs.Answers.{node-count, told, value}
+use Rattle.promises.specs.Operations.{Given, gives, orders}
+use Rattle.answers.specs.Inputs.{Body, Count}
+use Rattle.promises.specs.Inputs.{Orderable}
+use Rattle.promises.specs.Demand2.{HouseBody, OrdersRight, front}
+use Rattle.promises.proofs.Accepted.{order-pass}
 use Rattle.promises.proofs.Wrote.{front-is, wrote}
 
 module _ (n : ℕ) (b : List ℕ) (c : Count n) (g : Body n b) where
@@ -37,29 +35,24 @@ module _ (n : ℕ) (b : List ℕ) (c : Count n) (g : Body n b) where
   pub ordered-same : SameGroups (treeOf (ordered b)) (treeOf b)
   ordered-same = subst (λ (T : Tree). SameGroups T (treeOf b)) (sym ordered-is) (in-house .groups)
 
-  module _ (o : List ℕ) (room : length b ≤ length o) where
-    answer-is : orderAnswer n b (length o) ≡ Done (record { nodes = nodes b .count })
-    unfolding orderAnswer
-    answer-is = rw (count-right n c, g .long, no-fault 0 n (nodes b) .1 (g .good), le-ltb (length o) (length b) room) refl
+  long : length (ordered b) ≡ bodyLength (nodes b .count)
+  long = ordered-length n (c .most) b (g .good) (g .long) ∙ length-good b (g .long) .2
 
-    orders-is : orders n b o ≡ gives (told 0 (node-count (nodes b .count) ∷ [])) (written o (ordered b))
-    unfolding orderContent
-    orders-is = ap (λ (a : Answer). gives (orderTold a) (orderContent a b o)) answer-is
+module _ (n : ℕ) (b o : List ℕ) (g : Orderable n b o) where
+  orders-is : orders n b o ≡ gives (told 0 (value node-count (nodes b .count) ∷ [])) (written o (ordered b))
+  orders-is = rw (order-pass n b o .1 g) refl
 
-    long : length (ordered b) ≡ width * nodes b .count
-    long = ordered-length n (c .most) b (g .good) (g .long) ∙ length-good (length b) (g .long) .2
+  fits : length (ordered b) ≤ length o
+  fits = omega (arith, g .room, ordered-length n (g .count .most) b (g .body .good) (g .body .long))
 
-    fits : length (ordered b) ≤ length o
-    fits = omega (arith, ordered-length n (c .most) b (g .good) (g .long))
+  stands : front (nodes b .count) (written o (ordered b)) ≡ ordered b
+  stands = front-is n (nodes b .count) o (ordered b) (long n b (g .count) (g .body)) fits
 
-    stands : front (nodes b .count) (written o (ordered b)) ≡ ordered b
-    stands = front-is n (nodes b .count) o (ordered b) long fits
-
-    pub good-ordered : Orders n b o (orders n b o)
-    good-ordered = subst (λ (h : Given). Orders n b o h) (sym orders-is) (record {
-      count = nodes b .count;
-      told-is = refl;
-      wrote = wrote n (nodes b .count) o (ordered b) long fits ordered-body;
-      housed = subst HouseBody (sym stands) ordered-housed;
-      groups = subst (λ (u : List ℕ). SameGroups (treeOf u) (treeOf b)) (sym stands) ordered-same;
-    })
+  pub good-ordered : OrdersRight n b o (orders n b o)
+  good-ordered = subst (λ (h : Given). OrdersRight n b o h) (sym orders-is) (record {
+    count = nodes b .count;
+    told-is = refl;
+    wrote = wrote n (nodes b .count) o (ordered b) (long n b (g .count) (g .body)) fits (ordered-body n b (g .count) (g .body));
+    housed = subst HouseBody (sym stands) (ordered-housed n b (g .count) (g .body));
+    groups = subst (λ (u : List ℕ). SameGroups (treeOf u) (treeOf b)) (sym stands) (ordered-same n b (g .count) (g .body));
+  })

@@ -1,12 +1,11 @@
 -- The check of a tree that the builder gave for the same table: nothing contradicts it, so that it passes, or some triplet is not forced.
 -- Assumes nothing.
 use mathlib.Core.Bool.{So}
-use mathlib.Core.List.{List}
-use mathlib.Core.Logic.{_⊎_, inl, inr, ⊎-elim}
-use mathlib.Core.Path.{_≡_, sym, _∙_}
+use mathlib.Core.Logic.{inl, inr, ⊎-elim}
+use mathlib.Core.Path.{_∙_, ap, subst, sym}
 use Prim.Native.Nat.{ℕ}
 use Rattle.sets.proofs.Bools.{and-l, and-r, not-e, or-case}
-use Rattle.sets.specs.Species.{below}
+use Rattle.sets.specs.Species.{Species, below}
 use Rattle.trees.proofs.Agreement.{R-in}
 use Rattle.trees.specs.Check.{R, differs}
 use Rattle.trees.specs.Held.{HeldBy}
@@ -14,10 +13,14 @@ use Rattle.trees.specs.Trees.{Tree}
 use Rattle.trees.specs.Triplets.{Proper, Triplets, holds}
 use Rattle.tables.proofs.Bytes.{entered-proper}
 use Rattle.tables.specs.Bytes.{entered}
-use Rattle.sets.specs.Species.{Species}
-use Rattle.promises.specs.Candidates.{builds, checks}
-use Rattle.promises.specs.Demand2.{Contradicts, Count, Keeps, Table, front}
-use Rattle.promises.proofs.Checked.{good-checked}
+use Rattle.bodies.specs.Draws.{treeOf}
+use Rattle.answers.specs.Answers.{Told}
+use Rattle.answers.specs.Inputs.{Body}
+use Rattle.promises.specs.Operations.{builds, koodhaxil}
+use Rattle.promises.specs.Demand2.{Contradicts, front}
+use Rattle.promises.specs.Together.{BuiltChecked}
+use Rattle.promises.proofs.Chosen.{count-is}
+use Rattle.promises.proofs.Promises.{accepted, demand2}
 
 -- a tree that holds all that is entered is contradicted by none of it
 module _ (E : Triplets) (pr : Proper E) (S : Species) (T : Tree) (h : HeldBy E S T) where
@@ -32,10 +35,15 @@ module _ (E : Triplets) (pr : Proper E) (S : Species) (T : Tree) (h : HeldBy E S
   held-contradicts a b c d = or-case (differs E T a b c) _ d (held-agrees a b c)
       (λ k. or-case (differs E T a c b) (differs E T b c a) k (held-agrees a c b) (held-agrees b c a))
 
-pub built-checked : (n : ℕ) (t o : List ℕ) → Count n → Table n t → (k : Keeps (entered t) n (below n) o (builds n t o))
-    → (checks n t (front (k .count) (builds n t o .after)) .number ≡ 0) ⊎ (checks n t (front (k .count) (builds n t o .after)) .number ≡ 12)
-built-checked n t o c g k =
-    let r = good-checked n t (front (k .count) (builds n t o .after)) c g (k .wrote .body) in
+pub built-checked : BuiltChecked koodhaxil
+built-checked n m t o e =
+    let z = ap (λ (r : Told). r .number) e in
+    let g = accepted .building n t o .0 (inl z) in
+    let k = demand2 .building n t o g .keeps z in
+    let is = count-is (k .count) m (sym (k .told-is) ∙ e) in
+    let w = subst (λ (j : ℕ). Body n (front j (builds n t o .after))) is (k .wrote .body) in
+    let h = subst (λ (j : ℕ). HeldBy (entered t) (below n) (treeOf (front j (builds n t o .after)))) is (k .held) in
+    let r = demand2 .checking n t (front m (builds n t o .after)) (record { count = g .count; table = g .table; body = w }) in
     ⊎-elim inl (⊎-elim
-    (λ z. let w = r .contradicted z .2 in absurd (held-contradicts (entered t) (entered-proper t) (below n) _ (k .held) (w .low) (w .mid) (w .high) (w .here)))
-    inr) (r .settled)
+    (λ c. let f = r .contradicted c .2 in absurd (held-contradicts (entered t) (entered-proper t) (below n) _ h (f .low) (f .mid) (f .high) (f .here)))
+    inr) (r .one-of)

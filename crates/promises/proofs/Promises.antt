@@ -1,63 +1,59 @@
 -- The three demands, each a theorem about the operations of this library, to be read with `specs/`. Assumes nothing.
-use mathlib.Core.List.{List}
-use mathlib.Core.Path.{_≡_, ap}
-use Prim.Native.Nat.{ℕ}
+use mathlib.Core.Path.{refl}
 use lib.ListN.{length}
-use Rattle.answers.specs.Answers.{Exact}
-use Rattle.collections.proofs.Demand1.{read-demand1}
-use Rattle.listing.proofs.Demand1.{list-demand1}
-use Rattle.entering.proofs.Demand1.{enter-demand1}
-use Rattle.ordering.proofs.Demand1.{order-demand1}
-use Rattle.building.proofs.Demand1.{build-demand1}
-use Rattle.checking.proofs.Demand1.{check-demand1}
+use Rattle.bodies.specs.Nodes.{nodes}
+use Rattle.answers.proofs.Answered.{told-first}
+use Rattle.answers.specs.Looks.{firstRefusal}
 use Rattle.collections.specs.declared.Answer as Reading
-use Rattle.listing.specs.declared.Answer as Listing
 use Rattle.entering.specs.declared.Answer as Entering
 use Rattle.ordering.specs.declared.Answer as Ordering
 use Rattle.building.specs.declared.Answer as Building
 use Rattle.checking.specs.declared.Answer as Checking
-use Rattle.collections.specs.Order.{answerTold}
-use Rattle.collections.specs.Reads.{readAnswer}
-use Rattle.listing.specs.Lists.{listAfter, listAnswer, listTold}
-use Rattle.entering.specs.Enters.{enterAfter, enterAnswer}
-use Rattle.entering.specs.Order.{enterTold}
-use Rattle.ordering.specs.Orders.{orderAfter, orderAnswer, orderTold}
-use Rattle.building.specs.Builds.{buildAfter, buildAnswer, buildTold}
-use Rattle.checking.specs.Checks.{checkAnswer, checkTold}
-use Rattle.promises.specs.Candidates.{gives, koodhaxil}
+use Rattle.collections.specs.Reads.{countsOf, readLooks, readTold}
+use Rattle.listing.specs.Lists.{listLooks}
+use Rattle.entering.specs.Enters.{enterLooks, enterTold, entry}
+use Rattle.ordering.specs.Orders.{orderLooks, orderTold}
+use Rattle.building.specs.Builds.{buildLooks, buildTold, nodesIn, outcome}
+use Rattle.checking.specs.Checks.{checkLooks}
+use Rattle.promises.specs.Accepts.{Accepts}
+use Rattle.promises.specs.Operations.{koodhaxil}
 use Rattle.promises.specs.Demand1.{Demand1}
 use Rattle.promises.specs.Demand2.{Demand2}
 use Rattle.promises.specs.Demand3.{Demand3}
+use Rattle.promises.specs.Together.{AllDemands}
+use Rattle.promises.proofs.Accepted.{accepts}
 use Rattle.promises.proofs.Built.{good-built}
-use Rattle.promises.proofs.Checked.{good-checked}
+use Rattle.promises.proofs.Checked.{check-told, good-checked}
+use Rattle.promises.proofs.Chosen.{chosen}
 use Rattle.promises.proofs.Entered.{good-entered}
-use Rattle.promises.proofs.Gives.{exact-gives}
-use Rattle.promises.proofs.Kept.{build-kept, enter-kept, list-kept, order-kept}
 use Rattle.promises.proofs.Listed.{good-listed}
 use Rattle.promises.proofs.Ordered.{good-ordered}
-use Rattle.promises.proofs.Read.{good-read}
 use Rattle.promises.proofs.Rebuilt.{full-known, full-rebuilt}
 
 -- Every bad input gets the numbered refusal of the stated order, and a refused call leaves what was lent as it was.
 pub demand1 : Demand1 koodhaxil
 demand1 = record {
-  reading = read-demand1;
-  listing = λ b t. record { first = list-demand1 b (length t); kept = list-kept (listAnswer b (length t)) b t };
-  entering = λ n rs t. record { first = enter-demand1 n rs (length t); kept = enter-kept (enterAnswer n rs (length t)) n rs t };
-  ordering = λ n b o. record { first = order-demand1 n b (length o); kept = order-kept (orderAnswer n b (length o)) b o };
-  building = λ n t o. record { first = build-demand1 n t (length o); kept = build-kept (buildAnswer n t (length o)) n t o };
-  checking = check-demand1;
+  reading = λ b. told-first readTold Reading.the-variants.Done Reading.the-variants.Refused (countsOf b) refl (λ x. refl) (firstRefusal (readLooks b));
+  listing = λ b t. chosen readTold Reading.the-variants.Done Reading.the-variants.Refused (countsOf b) refl (λ x. refl) (listLooks b (length t)) _ t;
+  entering = λ n rs t. chosen enterTold Entering.the-variants.Done Entering.the-variants.Refused (entry n) refl (λ x. refl) (enterLooks n rs (length t)) _ t;
+  ordering = λ n b o. chosen orderTold Ordering.the-variants.Done Ordering.the-variants.Refused (record { nodes = nodes b .count }) refl (λ x. refl) (orderLooks n b (length o)) _ o;
+  building = λ n t o. chosen buildTold Building.the-variants.Done Building.the-variants.Refused (record { nodes = nodesIn (outcome n t) }) refl (λ x. refl) (buildLooks n t (length o)) _ o;
+  checking = λ n t b. check-told (firstRefusal (checkLooks n t b));
 }
+
+-- Input is refused exactly when it is not good: of any operations that keep demand 1, and so of these.
+pub accepted : Accepts koodhaxil
+accepted = accepts koodhaxil demand1
 
 -- Reading answers 0 for collections alone; the table has the bits of all trees, or of all records, and no others; house order keeps the groups; the builder gives Aho's tree, which holds every
 -- triplet entered, and refuses exactly when no tree does; the check passes a tree exactly when nothing contradicts it and each of its triplets is forced.
 pub demand2 : Demand2 koodhaxil
 demand2 = record {
-  reading = good-read;
-  listing = λ b t w l. good-listed b w t l;
-  entering = λ n rs t c l g. good-entered n rs g c t l;
-  ordering = λ n b o c g room. good-ordered n b c g o room;
-  building = λ n t o c g room. good-built n t o c g room;
+  reading = accepted .reading;
+  listing = good-listed;
+  entering = good-entered;
+  ordering = good-ordered;
+  building = good-built;
   checking = good-checked;
 }
 
@@ -69,28 +65,5 @@ demand3 = record {
 }
 
 -- All three, of one and the same six operations.
-pub all-demands : Demand1 koodhaxil × Demand2 koodhaxil × Demand3 koodhaxil
+pub all-demands : AllDemands koodhaxil
 all-demands = (demand1, demand2, demand3)
-
--- ---- The demands are of the code. Whatever meets the contract of a public function, an answer r and what was lent, now o, is what `koodhaxil` gives.
-
-pub read-is : (b : List ℕ) (r : Reading.Answer) → r ≡ readAnswer b → answerTold r ≡ koodhaxil .read b
-read-is b r p = ap answerTold p
-
-pub list-is : (b t : List ℕ) (r : Listing.Answer) (o : List ℕ) → Exact (listAnswer b (length t)) (listAfter b t) r o → gives (listTold r) o ≡ koodhaxil .list b t
-list-is b t r o p = exact-gives listTold p
-
-pub enter-is : (n : ℕ) (rs : List (List ℕ)) (t : List ℕ) (r : Entering.Answer) (o : List ℕ)
-    → Exact (enterAnswer n rs (length t)) (enterAfter n rs t) r o → gives (enterTold r) o ≡ koodhaxil .enter n rs t
-enter-is n rs t r o p = exact-gives enterTold p
-
-pub order-is : (n : ℕ) (b t : List ℕ) (r : Ordering.Answer) (o : List ℕ)
-    → Exact (orderAnswer n b (length t)) (orderAfter n b t) r o → gives (orderTold r) o ≡ koodhaxil .order n b t
-order-is n b t r o p = exact-gives orderTold p
-
-pub build-is : (n : ℕ) (t u : List ℕ) (r : Building.Answer) (o : List ℕ)
-    → Exact (buildAnswer n t (length u)) (buildAfter n t u) r o → gives (buildTold r) o ≡ koodhaxil .build n t u
-build-is n t u r o p = exact-gives buildTold p
-
-pub check-is : (n : ℕ) (t b : List ℕ) (r : Checking.Answer) → r ≡ checkAnswer n t b → checkTold r ≡ koodhaxil .check n t b
-check-is n t b r p = ap checkTold p

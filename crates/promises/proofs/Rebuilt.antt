@@ -24,8 +24,9 @@ use Rattle.bodies.proofs.Houses.{good-formed}
 use Rattle.bodies.specs.Draws.{nodeCount, ordered, treeOf, written}
 use Rattle.bodies.specs.Nodes.{roomFor}
 use Rattle.building.specs.Builds.{outcome}
-use Rattle.promises.specs.Candidates.{Given, builds, lists}
-use Rattle.promises.specs.Demand2.{Count, Table, front}
+use Rattle.promises.specs.Operations.{Given, builds, lists}
+use Rattle.answers.specs.Inputs.{Count, Table}
+use Rattle.promises.specs.Demand2.{front}
 use Rattle.promises.specs.Demand3.{Full, Returns, tableOf}
 use Rattle.promises.proofs.Alone.{alone-table}
 use Rattle.promises.proofs.Built.{builds-tree}
@@ -42,7 +43,7 @@ module _ (n : ℕ) (b : List ℕ) (c : Count n) (f : Full n b) where
   its = tableFor n (holds (treeOf b))
 
   its-good : Table n its
-  its-good = table-good n (holds (treeOf b)) (holds-proper (treeOf b))
+  its-good = table-good n (holds (treeOf b))
 
   within : Within n (holds (treeOf b))
   within x y z h =
@@ -68,7 +69,7 @@ module _ (n : ℕ) (b : List ℕ) (c : Count n) (f : Full n b) where
     stands = front-is n count o (ordered b) (body-length (house (treeOf b))) fits
 
     its-rebuilt : Returns n b o (builds n its o)
-    its-rebuilt = subst (λ (g : Given). Returns n b o g) (sym (builds-tree n its o c its-good room (house (treeOf b)) its-outcome)) (record {
+    its-rebuilt = subst (λ (g : Given). Returns n b o g) (sym (builds-tree n its o (record { count = c; table = its-good; room = room }) (house (treeOf b)) its-outcome)) (record {
       count = count;
       told-is = refl;
       wrote = wrote n count o (ordered b) (body-length (house (treeOf b))) fits (ordered-body n b c (f .body));

@@ -11,46 +11,49 @@ use Rattle.sets.specs.Species.{Species, members}
 use Rattle.trees.specs.Build.{build, buildIn, stop, tree}
 use Rattle.trees.specs.Links.{leads, part, parts}
 use Rattle.trees.specs.Trees.{Tree, cons, leaf, nil, node}
-use Rattle.tables.proofs.Limits.{over-all}
-use Rattle.tables.specs.Bytes.{bitOf, entered, over, placeOf}
-use Rattle.tables.specs.Checked.{Checked, checked, contradicted, firstDiffers, firstUnsure, passes, unforced}
-use Rattle.tables.specs.Find.{at, first, firstFrom}
+use Rattle.tables.proofs.Limits.{small-exactly}
+use Rattle.tables.specs.Bytes.{bitOf, entered, over, placeOf, wrongByte}
+use Rattle.tables.specs.Find.{at, firstTriple, firstFrom}
 use Rattle.tables.specs.Index.{C, highAt, index, largest, lowAt, midAt}
 use Rattle.bodies.proofs.Rules.{no-fault}
 use Rattle.bodies.specs.Draws.{bodyOf, nodeCount, treeAt, treeOf, written}
 use Rattle.bodies.specs.Faults as Faults
 use Rattle.bodies.specs.Nodes.{badLength, children, nodes, roomFor}
 use Rattle.bodies.specs.declared.Verdict.the-variants.{Fine}
-use Rattle.answers.specs.Answers.{node-count, stopping-set, told}
-use Rattle.ordering.specs.Orders.{orderAnswer, orderContent}
+use Rattle.answers.specs.Answers.{node-count, stopping-set, told, value}
+use Rattle.answers.specs.Looks as Looks
+use Rattle.answers.specs.Looks.{lookTold}
+use Rattle.answers.specs.declared.Look.{Look}
+use Rattle.answers.specs.declared.Look.the-variants.{Pass, Refuse}
+use Rattle.answers.specs.declared.Refusal.the-variants.{Contradicted, Unforced}
 use Rattle.building.specs.Builds.{outcome}
-use Rattle.checking.specs.Checks.{checkTold, settled}
-use Rattle.promises.specs.Candidates.{builds, checks, gives}
-use Rattle.promises.specs.Demand2.{Count, Table}
-use Rattle.promises.specs.Runs.{Holds, room, starred}
+use Rattle.checking.specs.Checks.{firstDiffers, firstUnsure, triplesLooks}
+use Rattle.promises.specs.Operations.{builds, checks, gives}
+use Rattle.answers.specs.Inputs.{Count, Table}
+use Rattle.promises.specs.Inputs.{Buildable}
+use Rattle.promises.specs.Runs.{CallsHold, cherryBody, fanBody, nestedBody, room, starred}
 use Rattle.promises.proofs.Built.{builds-stop, builds-tree}
 use Rattle.promises.proofs.Checked.{checks-tree}
 
-module _ (n : ℕ) (t : List ℕ) (some : 0 < n) (most : n ≤ 64) (long : length t ≡ C n 3) (small : over t ≡ length t) where
+module _ (n : ℕ) (t : List ℕ) (some : 0 < n) (most : n ≤ 64) (long : length t ≡ C n 3) (small : wrongByte t ≡ false) where
   count : Count n
   count = record { some = some; most = most }
 
   table : Table n t
-  table = record { long = long; small = over-all t small }
+  table = record { long = long; small = small-exactly t .0 small }
 
-  fits : roomFor n ≤ length (room n)
-  fits = omega (arith, length-replicate {A = ℕ} (roomFor n) 0)
+  good : Buildable n t (room n)
+  good = record { count = count; table = table; room = omega (arith, length-replicate {A = ℕ} (roomFor n) 0) }
 
-  by-tree : (T : Tree) → outcome n t ≡ tree T → builds n t (room n) ≡ gives (told 0 (node-count (nodeCount T) ∷ [])) (written (room n) (bodyOf T))
-  by-tree T e = builds-tree n t (room n) count table fits T e
+  by-tree : (T : Tree) → outcome n t ≡ tree T → builds n t (room n) ≡ gives (told 0 (value node-count (nodeCount T) ∷ [])) (written (room n) (bodyOf T))
+  by-tree T e = builds-tree n t (room n) good T e
 
-  by-stop : (U : Species) → outcome n t ≡ stop U → builds n t (room n) ≡ gives (told 10 (stopping-set (number 64 U) ∷ [])) (room n)
-  by-stop U e = builds-stop n t (room n) count table fits U e
+  by-stop : (U : Species) → outcome n t ≡ stop U → builds n t (room n) ≡ gives (told 10 (value stopping-set (number 64 U) ∷ [])) (room n)
+  by-stop U e = builds-stop n t (room n) good U e
 
-  by-check : (b : List ℕ) → badLength (length b) ≡ false → Faults.fault 0 (nodes b) n ≡ Fine → (T : Tree) → treeOf b ≡ T → (v : Checked) → checked n t T ≡ v
-      → checks n t b ≡ checkTold (settled v)
-  by-check b l f T e v k = ap checkTold (checks-tree n t b count table (record { good = no-fault 0 n (nodes b) .0 f; long = l })
-      ∙ ap (λ (u : Tree). settled (checked n t u)) e ∙ ap settled k)
+  by-check : (b : List ℕ) → badLength (length b) ≡ false → Faults.fault 0 (nodes b) n ≡ Fine → (T : Tree) → treeOf b ≡ T → (k : Look) → Looks.firstRefusal (triplesLooks n t T) ≡ k → checks n t b ≡ lookTold k []
+  by-check b l f T e k q = checks-tree n t b (record { count = count; table = table; body = record { good = no-fault 0 n (nodes b) .0 f; long = l } })
+      ∙ ap (λ (u : Tree). lookTold (Looks.firstRefusal (triplesLooks n t u)) []) e ∙ ap (λ (j : Look). lookTold j []) q
 
 -- ---- the trees of the runs
 
@@ -63,8 +66,8 @@ Cherry = pair (pair (leaf 0) (leaf 1)) (leaf 2)
 abbrev Fan : Tree
 Fan = node (cons (leaf 0) (cons (leaf 1) (cons (leaf 2) nil)))
 
-pub starred-given : Holds starred
-unfolding digit number members build buildIn leads part parts bitOf entered over placeOf checked firstDiffers firstUnsure at first firstFrom C highAt index largest lowAt midAt treeAt Faults.fault Faults.first Faults.seen children orderAnswer orderContent outcome
+pub starred-given : CallsHold starred
+unfolding digit number members build buildIn leads part parts bitOf entered over placeOf firstDiffers firstUnsure at firstTriple firstFrom C highAt index largest lowAt midAt treeAt Faults.fault Faults.firstBreak Faults.seen children outcome
 starred-given = (
   by-tree 1 [] (omega arith) (omega arith) refl refl (leaf 0) refl,
   (
@@ -74,20 +77,20 @@ starred-given = (
       (
         by-tree 4 (1 ∷ 0 ∷ 0 ∷ 1 ∷ []) (omega arith) (omega arith) refl refl (pair Cherry (leaf 3)) refl,
         (
-          by-check 4 (1 ∷ 0 ∷ 0 ∷ 1 ∷ []) (omega arith) (omega arith) refl refl _ refl refl (pair Cherry (leaf 3)) refl passes refl,
+          by-check 4 (1 ∷ 0 ∷ 0 ∷ 1 ∷ []) (omega arith) (omega arith) refl refl nestedBody refl refl (pair Cherry (leaf 3)) refl Pass refl,
           (
             by-stop 4 (3 ∷ 0 ∷ 0 ∷ 0 ∷ []) (omega arith) (omega arith) refl refl _ refl,
             (
               by-stop 4 (1 ∷ 2 ∷ 0 ∷ 1 ∷ []) (omega arith) (omega arith) refl refl _ refl,
               (
-                by-check 3 (2 ∷ []) (omega arith) (omega arith) refl refl _ refl refl Cherry refl (contradicted 0 2) refl,
+                by-check 3 (2 ∷ []) (omega arith) (omega arith) refl refl cherryBody refl refl Cherry refl (Refuse (Contradicted (record { index = 0; byte = 2 }))) refl,
                 (
-                  by-check 3 (3 ∷ []) (omega arith) (omega arith) refl refl _ refl refl Cherry refl (contradicted 0 3) refl,
+                  by-check 3 (3 ∷ []) (omega arith) (omega arith) refl refl cherryBody refl refl Cherry refl (Refuse (Contradicted (record { index = 0; byte = 3 }))) refl,
                   (
-                    by-check 3 (0 ∷ []) (omega arith) (omega arith) refl refl _ refl refl Cherry refl (unforced 0) refl,
+                    by-check 3 (0 ∷ []) (omega arith) (omega arith) refl refl cherryBody refl refl Cherry refl (Refuse (Unforced 0)) refl,
                     (
-                      by-check 3 (1 ∷ []) (omega arith) (omega arith) refl refl _ refl refl Cherry refl passes refl,
-                      (by-check 3 (3 ∷ []) (omega arith) (omega arith) refl refl _ refl refl Fan refl passes refl, (refl, tt)),
+                      by-check 3 (1 ∷ []) (omega arith) (omega arith) refl refl cherryBody refl refl Cherry refl Pass refl,
+                      (by-check 3 (3 ∷ []) (omega arith) (omega arith) refl refl fanBody refl refl Fan refl Pass refl, (refl, tt)),
                     ),
                   ),
                 ),

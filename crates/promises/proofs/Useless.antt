@@ -1,169 +1,218 @@
 -- Each useless function breaks the demand that document 01 names for it, as the very same record; and the one that closes a gap breaks demand 2.
 -- Assumes nothing.
-use mathlib.Core.Bool.{So, _||_, false, false≢true}
+use mathlib.Core.Bool.{Bool, So, cond, false, false≢true, true}
 use mathlib.Core.List.{List, [], _∷_}
 use mathlib.Core.Logic.{_≢_, inl, ⊎-elim}
-use mathlib.Core.Path.{_∙_, _≡_, ap, refl, subst, sym}
-use Prim.Native.Nat.{ℕ, _*_, suc, zero}
+use mathlib.Core.Path.{_∙_, _≡_, ap, ap₂, refl, subst, sym}
+use Prim.Native.Nat.{_<_, suc, zero, ℕ}
 use native.Mathlib.Omega.{arith}
-use borrow.Author.Tests.{eq-eqb, eqb-true, lt-ltb, ltb-true}
+use borrow.Author.Tests.{eq-eqb, eqb-false, eqb-true, lt-ltb, ltb-false, ltb-true}
 use lib.Dec.{eqb, ltb}
-use lib.ListN.{take}
-use lib.Seq.{take-all}
-use Rattle.sets.proofs.Bools.{bool-ext, ne-e, or-case, or-l, or-r, test}
+use lib.ListN.{getD, take}
+use Rattle.sets.proofs.Bools.{bool-ext}
 use Rattle.sets.proofs.Members.{all-below}
-use Rattle.sets.specs.Sets.{digit}
+use Rattle.sets.specs.Sets.{digit, has}
 use Rattle.sets.specs.Species.{Species, below, members}
-use Rattle.trees.proofs.Groups.{same-species}
-use Rattle.trees.proofs.Theorems.{built-tree}
+use Rattle.trees.proofs.Groups.{same-holds}
+use Rattle.trees.proofs.Theorems.{aho-one, built-tree}
 use Rattle.trees.specs.Aho.{AhoTree}
 use Rattle.trees.specs.Build.{build, buildIn, tree}
 use Rattle.trees.specs.Held.{CanBeHeld, HeldBy}
 use Rattle.trees.specs.Links.{Walk, leads, part, parts, stay, via}
 use Rattle.trees.specs.Trees.{SameGroups, Tree, cons, inHouseOrder, leaf, nil, node}
 use Rattle.tables.proofs.Bytes.{entered-empty, entered-proper, entered-zeros}
-use Rattle.tables.proofs.Limits.{over-all}
+use Rattle.tables.proofs.Limits.{small-exactly}
 use Rattle.tables.specs.Bytes.{bitOf, entered, over, placeOf}
 use Rattle.tables.specs.Filled.{bytesFrom, tableFor}
 use Rattle.tables.specs.Index.{C, highAt, index, largest, lowAt, midAt}
+use Rattle.bodies.proofs.Back.{body-back, body-length, body-room}
 use Rattle.bodies.proofs.Rules.{no-fault}
-use Rattle.bodies.specs.Draws.{treeAt, treeOf}
-use Rattle.bodies.specs.Faults.{fault, first, seen}
-use Rattle.bodies.specs.Nodes.{children, nodes}
-use Rattle.answers.specs.Answers.{Told, node-count, told}
-use Rattle.collections.proofs.Whole.{good-whole}
+use Rattle.bodies.specs.Draws.{bodyOf, nodeCount, treeAt, treeOf, written}
+use Rattle.bodies.specs.Faults.{fault, firstBreak, seen}
+use Rattle.bodies.specs.Nodes.{bodyLength, children, nodes}
+use Rattle.answers.specs.Answers.{Told, node-count, table-byte, told, triple-index, value}
+use Rattle.answers.specs.Inputs.{Body, Count}
+use Rattle.collections.proofs.Whole.{read-pass}
 use Rattle.collections.specs.Collection.{Collection}
 use Rattle.collections.specs.Layout.{start}
-use Rattle.collections.specs.Reads.{readAnswer, readFrom}
-use Rattle.listing.specs.Lists.{said}
+use Rattle.collections.specs.Reads.{looksFrom, readLooks}
+use Rattle.listing.specs.Lists.{heldUpTo}
 use Rattle.building.specs.Builds.{outcome}
-use Rattle.promises.specs.Candidates.{Builder, Given, Lister, Operations, checks, enters, lists, orders, reads}
-use Rattle.promises.specs.Demand2.{Body, BuildsAll, Count, Demand2, ListsAll, Table, front}
-use Rattle.promises.specs.Demand3.{Demand3, Full}
-use Rattle.promises.specs.Runs.{cherry}
-use Rattle.promises.specs.Useless.{Gives, Invents, ListsFirst, Refuses, Silent, closing}
-use Rattle.promises.proofs.Built.{builds-tree}
+use Rattle.promises.specs.Operations.{Given, builds, checks, gives, lists}
+use Rattle.promises.specs.Inputs.{Buildable, Listable}
+use Rattle.promises.specs.Demand2.{ChecksRight, FirstTriple, Keeps, front}
+use Rattle.promises.specs.Demand3.{Full}
+use Rattle.promises.specs.Runs.{cherryBody, fanBody}
+use Rattle.promises.specs.Useless.{ClosingBreaks, ClosingHeld, FirstAloneBreaks, FirstBreaks, FixedBreaks, Gives, Invents, InventingBreaks, LenientBreaks, ListsFirst, Misjudges, MisjudgingBreaks, RefusingBreaks, RefusingBreaksRebuilding, SilentBreaks, StarryBreaks, Tells99Breaks, firstAlone, lenient, onZero, star, starry, tells99}
+use Rattle.promises.proofs.Alone.{alone-buildable}
+use Rattle.promises.proofs.Built.{builds-tree, good-built}
+use Rattle.promises.proofs.Checked.{good-checked}
+use Rattle.promises.proofs.Chosen.{count-is}
+use Rattle.promises.proofs.Listed.{lists-is}
+use Rattle.promises.proofs.Runs.{starred-given}
+use Rattle.promises.proofs.Star.{star-sound}
+use Rattle.promises.proofs.Wrote.{front-is}
 
--- ---- one species, and its empty table
+-- ---- one species, its empty table, and room for the leaf
 
-one : Count 1
-one = record { some = omega arith; most = omega arith }
+abbrev two-bytes : List ℕ
+two-bytes = 0 ∷ 0 ∷ []
 
-empty : Table 1 []
-unfolding C
-empty = record { long = refl; small = λ i. omega arith }
-
--- the lone leaf holds all that is entered
-lone-held : HeldBy (entered []) (below 1) (leaf 0)
-lone-held = record {
-  species = λ x. bool-ext (eqb 0 x) (ltb x 1) (λ h. let e = eqb-true 0 x h in lt-ltb x 1 (omega arith)) (λ h. let l = ltb-true x 1 h in eq-eqb 0 x (omega arith));
-  formed = refl;
-  keeps = λ a b c ha hb hc h. absurd (false≢true (sym (entered-empty a b c) ∙ h));
+one-good : Buildable 1 [] two-bytes
+unfolding C over
+one-good = record {
+  count = record { some = omega arith; most = omega arith };
+  table = record { long = refl; small = small-exactly [] .0 refl };
+  room = omega arith;
 }
 
+-- the lone leaf holds all that is entered
 lone : CanBeHeld (entered []) (below 1)
-lone = (leaf 0, lone-held)
+lone = (
+  leaf 0,
+  record {
+    species = λ x. bool-ext (eqb 0 x) (ltb x 1) (λ h. let e = eqb-true 0 x h in lt-ltb x 1 (omega arith)) (λ h. let l = ltb-true x 1 h in eq-eqb 0 x (omega arith));
+    formed = refl;
+    keeps = λ a b c ha hb hc h. absurd (false≢true (sym (entered-empty a b c) ∙ h));
+  },
+)
 
--- "one that refuses always (demand 2, no tree must be absent; also 3)"
-pub refusing-breaks : (f : Builder) → Refuses f → BuildsAll f → ⊥
-refusing-breaks f never d =
-    let o : List ℕ = 0 ∷ 0 ∷ [] in
-    let r = d 1 [] o one empty (omega arith) in
-    ⊎-elim (never 1 [] o) (λ z. r .refuses .0 z lone) (r .settled)
+pub refusing-breaks : RefusingBreaks
+refusing-breaks f never d = let r = d 1 [] two-bytes one-good in ⊎-elim (never 1 [] two-bytes one-good) (λ z. r .refuses .0 z lone) (r .one-of)
 
--- "one that writes nothing (demand 2)": bytes of zeros are no body
-zeros : (k : ℕ) → Body 1 (take k (0 ∷ 0 ∷ [])) → ⊥
+-- bytes of zeros are no body
+zeros : (k : ℕ) → Body 1 (take k two-bytes) → ⊥
 zeros zero w = false≢true (sym (w .long))
 zeros (suc zero) w = false≢true (sym (w .long))
 zeros (suc (suc k)) w = let e : _≡_ {A = ℕ} 0 255 = w .good .root (omega arith) in omega arith
 
-pub silent-breaks : (f : Builder) → Silent f → BuildsAll f → ⊥
+pub silent-breaks : SilentBreaks
 silent-breaks f still d =
-    let o : List ℕ = 0 ∷ 0 ∷ [] in
-    let r = d 1 [] o one empty (omega arith) in
-    ⊎-elim (λ z. let k = r .keeps z in zeros (2 * k .count) (subst (λ (b : List ℕ). Body 1 (front (k .count) b)) (still 1 [] o) (k .wrote .body))) (λ z. r .refuses .0 z lone) (r .settled)
+    let r = d 1 [] two-bytes one-good in
+    ⊎-elim
+    (λ z. let k = r .keeps z in zeros (bodyLength (k .count)) (subst (λ (b : List ℕ). Body 1 (front (k .count) b)) (still 1 [] two-bytes one-good) (k .wrote .body)))
+    (λ z. r .refuses .0 z lone)
+    (r .one-of)
 
--- "An invented node count breaks demand 2's body": in a room of two bytes there is one node
+-- ---- an invented node count
+
+-- demand 2 fixes the count: Aho's tree is one, and so is its body in house order
+keeps-count : (t : List ℕ) (n : ℕ) (S : Species) (o : List ℕ) {g g′ : Given} (k : Keeps (entered t) n S o g) (k′ : Keeps (entered t) n S o g′) → k .count ≡ k′ .count
+keeps-count t n S o {g} {g′} k k′ =
+    let one = aho-one (entered t) (entered-proper t) (treeOf (front (k .count) (g .after))) (treeOf (front (k′ .count) (g′ .after))) (k .held .formed) (k′ .held .formed) (k .housed .children) (k′ .housed .children)
+    (λ x. k .held .species x ∙ sym (k′ .held .species x)) (k .aho) (k′ .aho) in
+    sym (k .wrote .count) ∙ ap (λ (b : List ℕ). nodes b .count) (k .housed .preorder ∙ ap bodyOf one ∙ sym (k′ .housed .preorder)) ∙ k′ .wrote .count
+
+pub inventing-breaks : InventingBreaks
+inventing-breaks f i d =
+    let r = d (i .n) (i .t) (i .o) (i .good) in
+    let ours = good-built (i .n) (i .t) (i .o) (i .good) .keeps (i .built) in
+    ⊎-elim
+    (λ z.
+    let k = r .keeps z in
+    i .other (k .told-is ∙ ap (λ (m : ℕ). told 0 (value node-count m ∷ [])) (keeps-count (i .t) (i .n) (below (i .n)) (i .o) k ours) ∙ sym (ours .told-is)))
+    (λ z. r .refuses .0 z (_, ours .held))
+    (r .one-of)
+
+-- on 0 it is h, and it answers 0 nowhere else
+on-zero : (g h : Given) → g .told .number ≡ 0 → onZero g h ≡ h
+on-zero g h z = rw (eq-eqb (g .told .number) 0 z) refl
+
+zero-on : (g h : Given) → onZero g h .told .number ≡ 0 → onZero g h ≡ h
+zero-on g h = go (eqb (g .told .number) 0) refl
+  where
+    go : (c : Bool) → eqb (g .told .number) 0 ≡ c → cond c h g .told .number ≡ 0 → cond c h g ≡ h
+    go true e z = refl
+    go false e z = absurd (eqb-false (g .told .number) 0 e z)
+
 lone-built : outcome 1 [] ≡ tree (leaf 0)
 unfolding outcome build buildIn members part leads parts entered placeOf bitOf index C digit
 lone-built = refl
 
-one-node : (k : ℕ) → Body 1 (front k (255 ∷ 0 ∷ [])) → nodes (front k (255 ∷ 0 ∷ [])) .count ≡ k → k ≡ 1
-one-node zero w e = absurd (false≢true (sym (w .long)))
-one-node (suc k) w e = sym e ∙ ap (λ (b : List ℕ). nodes b .count) (take-all (2 * suc k) (255 ∷ 0 ∷ []) (omega arith))
+pub tells99-invents : Invents tells99
+tells99-invents =
+    let ours = builds-tree 1 [] two-bytes one-good (leaf 0) lone-built in
+    let built = ap (λ (g : Given). g .told .number) ours in
+    record {
+      writes = λ n t o g z. ap (λ (h : Given). h .after) (on-zero (builds n t o) _ z);
+      n = 1;
+      t = [];
+      o = two-bytes;
+      good = one-good;
+      built = built;
+      other = λ e. let m = count-is 99 1 (sym (ap (λ (g : Given). g .told) (on-zero (builds 1 [] two-bytes) _ built)) ∙ e ∙ ap (λ (g : Given). g .told) ours) in omega arith;
+    }
 
-count-is : (k m : ℕ) → told 0 (node-count k ∷ []) ≡ told 0 (node-count m ∷ []) → k ≡ m
-count-is k m e = let v : (node-count k ∷ []) ≡ (node-count m ∷ []) = ap (λ (x : Told). x .values) e in cc
+pub tells99-breaks : Tells99Breaks
+tells99-breaks = inventing-breaks tells99 tells99-invents
 
-pub inventing-breaks : (f : Builder) → Invents f → BuildsAll f → ⊥
-inventing-breaks f wrong d =
-    let o : List ℕ = 0 ∷ 0 ∷ [] in
-    let r = d 1 [] o one empty (omega arith) in
-    let ours = builds-tree 1 [] o one empty (omega arith) (leaf 0) lone-built in
-    let e : f 1 [] o .after ≡ (255 ∷ 0 ∷ []) = wrong 1 [] o .0 ∙ ap (λ (g : Given). g .after) ours in
-    ⊎-elim
-    (λ z.
-    let k = r .keeps z in
-    let m = one-node (k .count) (subst (λ (b : List ℕ). Body 1 (front (k .count) b)) e (k .wrote .body)) (subst (λ (b : List ℕ). nodes (front (k .count) b) .count ≡ k .count) e (k .wrote .count)) in
-    wrong 1 [] o .1 (k .told-is ∙ ap (λ (i : ℕ). told 0 (node-count i ∷ [])) m ∙ sym (ap (λ (g : Given). g .told) ours)))
-    (λ z. r .refuses .0 z lone)
-    (r .settled)
+-- ---- three species: the fan, and ((0,1),2), which has the group of 0 and 1 besides
 
-abbrev with-build : Builder → Operations
-with-build f = record { read = reads; list = lists; enter = enters; order = orders; build = f; check = checks }
-
--- "one that returns a fixed tree (demand 3, groups differ)"
-abbrev pair : List ℕ
-pair = 255 ∷ 255 ∷ 0 ∷ 0 ∷ 0 ∷ 1 ∷ []
-
-two : Count 2
-two = record { some = omega arith; most = omega arith }
-
-pair-full : Full 2 pair
-unfolding fault first seen children treeAt
-pair-full = record {
-  body = record { good = no-fault 0 2 (nodes pair) .0 refl; long = refl };
-  every = λ x. bool-ext (eqb 0 x || (eqb 1 x || false)) (ltb x 2)
-      (λ h. or-case (eqb 0 x) _ h
-      (λ k. let e = eqb-true 0 x k in lt-ltb x 2 (omega arith))
-      (λ k. or-case (eqb 1 x) false k (λ q. let e = eqb-true 1 x q in lt-ltb x 2 (omega arith)) (λ q. absurd (false≢true q))))
-      (λ h. let l = ltb-true x 2 h in test (eqb 0 x) (or-l (eqb 0 x) _)
-      (λ k. let n = ne-e 0 x k in or-r (eqb 0 x) _ (or-l (eqb 1 x) false (eq-eqb 1 x (omega arith)))));
-}
-
-abbrev single : List ℕ
-single = 255 ∷ 0 ∷ []
-
-single-full : Full 1 single
-unfolding fault first seen children treeAt
-single-full = record { body = record { good = no-fault 0 1 (nodes single) .0 refl; long = refl }; every = lone-held .species }
-
-pub fixed-breaks : (f : Builder) (T : Tree) → Gives T f → Demand3 (with-build f) → ⊥
-unfolding children treeAt C
-fixed-breaks f T same d =
-    let r = d .rebuilt 1 single [] (0 ∷ 0 ∷ []) one single-full refl (omega arith) in
-    let r′ = d .rebuilt 2 pair [] (0 ∷ 0 ∷ 0 ∷ 0 ∷ 0 ∷ 0 ∷ []) two pair-full refl (omega arith) in
-    let s : SameGroups T (leaf 0) = subst (λ (u : Tree). SameGroups u (leaf 0)) (same 1 _ _ (r .count) (r .told-is)) (r .groups) in
-    let s′ : SameGroups T (treeOf pair) = subst (λ (u : Tree). SameGroups u (treeOf pair)) (same 2 _ _ (r′ .count) (r′ .told-is)) (r′ .groups) in
-    false≢true (sym (same-species T (leaf 0) s 1) ∙ same-species T (treeOf pair) s′ 1)
-
--- the one that refuses always breaks this demand too
-pub refusing-breaks-rebuilding : (f : Builder) → Refuses f → Demand3 (with-build f) → ⊥
-unfolding C
-refusing-breaks-rebuilding f never d =
-    let r = d .rebuilt 2 pair [] (0 ∷ 0 ∷ 0 ∷ 0 ∷ 0 ∷ 0 ∷ []) two pair-full refl (omega arith) in
-    never 2 _ _ (ap (λ (x : Told). x .number) (r .told-is))
-
--- a gap that is closed: no source says anything of three species, and ((0,1),2) puts two of them together
 three : Count 3
 three = record { some = omega arith; most = omega arith }
+
+abbrev ten-bytes : List ℕ
+ten-bytes = 0 ∷ 0 ∷ 0 ∷ 0 ∷ 0 ∷ 0 ∷ 0 ∷ 0 ∷ 0 ∷ 0 ∷ []
 
 abbrev unsaid : List ℕ
 unsaid = 0 ∷ []
 
-unsaid-good : Table 3 unsaid
+module _ (t : List ℕ) (T : Tree) (e : build (entered t) 3 (below 3) ≡ tree T) where
+  three-built : HeldBy (entered t) (below 3) T × So (inHouseOrder T)
+  three-built = built-tree (entered t) (entered-proper t) 3 (below 3) (all-below 3) 0 refl T e
+
+fan-built : build (entered unsaid) 3 (below 3) ≡ tree (treeOf fanBody)
+unfolding build buildIn members part leads parts entered placeOf bitOf index C digit children treeAt
+fan-built = refl
+
+cherry-built : build (entered (1 ∷ [])) 3 (below 3) ≡ tree (treeOf cherryBody)
+unfolding build buildIn members part leads parts entered placeOf bitOf index C digit children treeAt
+cherry-built = refl
+
+fan-full : Full 3 fanBody
+unfolding fault firstBreak seen children
+fan-full = record { body = record { good = no-fault 0 3 (nodes fanBody) .0 refl; long = refl }; every = three-built unsaid (treeOf fanBody) fan-built .0 .species }
+
+cherry-full : Full 3 cherryBody
+unfolding fault firstBreak seen children
+cherry-full = record { body = record { good = no-fault 0 3 (nodes cherryBody) .0 refl; long = refl }; every = three-built (1 ∷ []) (treeOf cherryBody) cherry-built .0 .species }
+
+pub fixed-breaks : FixedBreaks
+unfolding children treeAt C
+fixed-breaks f T same d =
+    let r = d .rebuilt 3 fanBody unsaid ten-bytes three fan-full refl (omega arith) in
+    let r′ = d .rebuilt 3 cherryBody unsaid ten-bytes three cherry-full refl (omega arith) in
+    let g = alone-buildable 3 fanBody three (fan-full .body) unsaid ten-bytes refl (omega arith) in
+    let g′ = alone-buildable 3 cherryBody three (cherry-full .body) unsaid ten-bytes refl (omega arith) in
+    let s : SameGroups (T 3) (treeOf fanBody) = subst (λ (u : Tree). SameGroups u (treeOf fanBody)) (same 3 _ _ g (r .count) (r .told-is)) (r .groups) in
+    let s′ : SameGroups (T 3) (treeOf cherryBody) = subst (λ (u : Tree). SameGroups u (treeOf cherryBody)) (same 3 _ _ g′ (r′ .count) (r′ .told-is)) (r′ .groups) in
+    false≢true (sym (same-holds (T 3) (treeOf fanBody) s 0 1 2) ∙ same-holds (T 3) (treeOf cherryBody) s′ 0 1 2)
+
+-- the one that refuses always breaks this demand too
+pub refusing-breaks-rebuilding : RefusingBreaksRebuilding
+unfolding C
+refusing-breaks-rebuilding f never d =
+    let r = d .rebuilt 3 fanBody unsaid ten-bytes three fan-full refl (omega arith) in
+    never 3 _ ten-bytes (alone-buildable 3 fanBody three (fan-full .body) unsaid ten-bytes refl (omega arith)) (ap (λ (x : Told). x .number) (r .told-is))
+
+pub starry-gives : Gives star starry
+starry-gives n t o g k e =
+    let T = star n in
+    let s = star-sound n (g .count .some) in
+    let q = zero-on (builds n t o) (gives (told 0 (value node-count (nodeCount T) ∷ [])) (written o (bodyOf T))) (ap (λ (x : Told). x .number) e) in
+    let m = count-is k (nodeCount T) (sym e ∙ ap (λ (h : Given). h .told) q) in
+    ap₂ (λ (j : ℕ) (u : List ℕ). treeOf (front j u)) m (ap (λ (h : Given). h .after) q)
+    ∙ ap treeOf (front-is n (nodeCount T) o (bodyOf T) (body-length T) (omega (arith, g .room, body-room n T (s .0) (s .1))))
+    ∙ body-back n T (s .0) (s .1) (g .count .most)
+
+pub starry-breaks : StarryBreaks
+starry-breaks = fixed-breaks starry star starry-gives
+
+-- ---- a gap that is closed: no source says anything of three species, and ((0,1),2) puts two of them together
+
+unsaid-good : Buildable 3 unsaid ten-bytes
 unfolding C over
-unsaid-good = record { long = refl; small = over-all unsaid refl }
+unsaid-good = record { count = three; table = record { long = refl; small = small-exactly unsaid .0 refl }; room = omega arith }
 
 unsaid-empty : (a b c : ℕ) → So (entered unsaid a b c) → ⊥
 unsaid-empty a b c h = false≢true (sym (entered-zeros 1 a b c) ∙ h)
@@ -173,40 +222,99 @@ unsaid-walk : {S : Species} {a b : ℕ} → Walk (entered unsaid) S a b → a �
 unsaid-walk (stay a) n = n refl
 unsaid-walk (via a b c ha hb hc e w) n = unsaid-empty a b c e
 
-cherry-built : build (entered (1 ∷ [])) 3 (below 3) ≡ tree (treeOf cherry)
-unfolding build buildIn members part leads parts entered placeOf bitOf index C digit children treeAt
-cherry-built = refl
-
--- that tree has all else that is asked: every species, all that was entered, and house order
-pub closing-held : HeldBy (entered unsaid) (below 3) (treeOf cherry) × So (inHouseOrder (treeOf cherry))
+pub closing-held : ClosingHeld
 closing-held =
-    let b = built-tree (entered (1 ∷ [])) (entered-proper (1 ∷ [])) 3 (below 3) (all-below 3) 0 refl (treeOf cherry) cherry-built in
+    let b = three-built (1 ∷ []) (treeOf cherryBody) cherry-built in
     (record { species = b .0 .species; formed = b .0 .formed; keeps = λ x y z hx hy hz e. absurd (unsaid-empty x y z e) }, b .1)
 
-pub closing-breaks : Demand2 (with-build closing) → ⊥
+pub closing-breaks : ClosingBreaks
 unfolding children treeAt
 closing-breaks d =
-    let k = d .building 3 unsaid (0 ∷ 0 ∷ 0 ∷ 0 ∷ 0 ∷ 0 ∷ 0 ∷ 0 ∷ 0 ∷ 0 ∷ []) three unsaid-good (omega arith) .keeps refl in
-    let a : AhoTree (entered unsaid) (treeOf cherry) = subst (λ (m : ℕ). AhoTree (entered unsaid) (treeOf (front m cherry))) (sym (count-is 5 (k .count) (k .told-is))) (k .aho) in
+    let k = d .building 3 unsaid ten-bytes unsaid-good .keeps refl in
+    let a : AhoTree (entered unsaid) (treeOf cherryBody) = subst (λ (m : ℕ). AhoTree (entered unsaid) (treeOf (front m cherryBody))) (sym (count-is 5 (k .count) (k .told-is))) (k .aho) in
     unsaid-walk (a .0 0 1 refl refl .0 (node (cons (leaf 0) (cons (leaf 1) nil)), inl refl, refl, refl)) (omega arith)
 
--- "one that lists only the first tree and counts the rest as read (demand 2, the bits of all trees)": a fan, and then ((0,1),2)
+-- ---- a check that misjudges
+
+-- demand 2 fixes the triple: the first is one
+first-least : (n : ℕ) (P : ℕ → ℕ → ℕ → Type 0) (i j : ℕ) → FirstTriple n P i → FirstTriple n P j → i < j → ⊥
+first-least n P i j f g l = g .before (f .low) (f .mid) (f .high) (f .triple .0) (f .triple .1) (f .triple .2) (omega (arith, f .place)) (f .here)
+
+first-one : (n : ℕ) (P : ℕ → ℕ → ℕ → Type 0) (i j : ℕ) → FirstTriple n P i → FirstTriple n P j → i ≡ j
+first-one n P i j f g = go (ltb i j) (ltb j i) refl refl
+  where
+    go : (p q : Bool) → ltb i j ≡ p → ltb j i ≡ q → i ≡ j
+    go true q p′ q′ = absurd (first-least n P i j f g (ltb-true i j p′))
+    go false true p′ q′ = absurd (first-least n P j i g f (ltb-true j i q′))
+    go false false p′ q′ = omega (arith, ltb-false i j p′, ltb-false j i q′)
+
+-- and so what is told where a tree does not pass
+told-one : (n : ℕ) (t : List ℕ) (S : Species) (T : Tree) (r q : Told) → ChecksRight n t S T r → ChecksRight n t S T q → q .number ≢ 0 → r ≡ q
+told-one n t S T r q c d some = ⊎-elim (λ z. absurd (some z)) (⊎-elim eleven twelve) (d .one-of)
+  where
+    eleven : q .number ≡ 11 → r ≡ q
+    eleven z =
+        let x = c .contradicted (c .fails .1 (d .fails .0 z)) in
+        let y = d .contradicted z in
+        x .1 ∙ ap (λ (i : ℕ). told 11 (value triple-index i ∷ value table-byte (getD t i 0) ∷ [])) (first-one n _ (x .0) (y .0) (x .2) (y .2)) ∙ sym (y .1)
+
+    twelve : q .number ≡ 12 → r ≡ q
+    twelve z =
+        let y = d .unforced z in
+        let x = c .unforced (⊎-elim
+        (λ k. absurd (some (d .passes .1 (c .passes .0 k))))
+        (⊎-elim (λ k. let e = d .fails .1 (c .fails .0 k) in absurd (omega arith)) (λ k. k)) (c .one-of)) in
+        x .1 ∙ ap (λ (i : ℕ). told 12 (value triple-index i ∷ [])) (first-one n _ (x .0) (y .0) (x .3) (y .3)) ∙ sym (y .1)
+
+pub misjudging-breaks : MisjudgingBreaks
+misjudging-breaks f m d = m .other (told-one (m .n) (m .t) (below (m .n)) (treeOf (m .b)) (f (m .n) (m .t) (m .b)) (checks (m .n) (m .t) (m .b))
+    (d (m .n) (m .t) (m .b) (m .good)) (good-checked (m .n) (m .t) (m .b) (m .good)) (m .failed))
+
+-- ((0,1),2) where nothing is said, a run of document 01
+loose : checks 3 unsaid cherryBody ≡ told 12 (value triple-index 0 ∷ [])
+loose = starred-given .1 .1 .1 .1 .1 .1 .1 .1 .1 .0
+
+lenient-passes : lenient 3 unsaid cherryBody ≡ told 0 []
+lenient-passes = rw loose refl
+
+pub lenient-misjudges : Misjudges lenient
+lenient-misjudges = record {
+  n = 3;
+  t = unsaid;
+  b = cherryBody;
+  good = record { count = three; table = unsaid-good .table; body = cherry-full .body };
+  failed = λ z. let e = sym (ap (λ (r : Told). r .number) loose) ∙ z in omega arith;
+  other = λ z. let e = ap (λ (r : Told). r .number) (sym lenient-passes ∙ z ∙ loose) in omega arith;
+}
+
+pub lenient-breaks : LenientBreaks
+lenient-breaks = misjudging-breaks lenient lenient-misjudges
+
+-- ---- the first tree alone: of a fan, and then ((0,1),2)
+
 abbrev papers : List ℕ
 papers = 1 ∷ 3 ∷ 2 ∷ 0 ∷ 8 ∷ 255 ∷ 255 ∷ 0 ∷ 0 ∷ 0 ∷ 1 ∷ 0 ∷ 2 ∷ 0 ∷ 10 ∷ 255 ∷ 255 ∷ 0 ∷ 255 ∷ 1 ∷ 0 ∷ 1 ∷ 1 ∷ 0 ∷ 2 ∷ []
 
 papers-good : Collection papers
-unfolding readAnswer readFrom start fault first seen children
-papers-good = good-whole papers (record { n = 3; trees = 2 }) refl .1
+unfolding readLooks looksFrom start fault firstBreak seen children
+papers-good = read-pass papers .0 refl
 
 first-table : List ℕ
-first-table = tableFor 3 (said papers 1)
+first-table = tableFor 3 (heldUpTo papers 1)
 
-first-lacks : entered first-table 0 1 2 ≡ false
-unfolding first-table start children treeAt tableFor bytesFrom said entered placeOf bitOf index C largest highAt midAt lowAt digit
+first-lacks : has (getD first-table (index 0 1 2) 0) 0 ≡ false
+unfolding first-table start children treeAt tableFor bytesFrom heldUpTo index C largest highAt midAt lowAt digit
 first-lacks = refl
 
-pub first-alone-breaks : (f : Lister) → ListsFirst f → ListsAll f → ⊥
+pub first-alone-breaks : FirstBreaks
 unfolding first-table start children treeAt C
 first-alone-breaks f alone d =
-    let h : So (entered (f papers (0 ∷ []) .after) 0 1 2) = d papers (0 ∷ []) papers-good refl .bits 0 1 2 .1 (1, omega arith, refl) in
-    false≢true (sym first-lacks ∙ subst (λ (t : List ℕ). So (entered t 0 1 2)) (alone papers (0 ∷ [])) h)
+    let g : Listable papers unsaid = record { collection = papers-good; long = refl } in
+    let h = d papers unsaid g .table .bytes 0 1 2 (omega arith) (omega arith) (omega arith) .ab .1 (1, omega arith, refl) in
+    false≢true (sym first-lacks ∙ subst (λ (t : List ℕ). So (has (getD t (index 0 1 2) 0) 0)) (alone papers unsaid g) h)
+
+pub firstAlone-lists : ListsFirst firstAlone
+firstAlone-lists b t g = ap (λ (h : Given). h .after) (on-zero (lists b t) _ (ap (λ (h : Given). h .told .number) (lists-is b t g)))
+
+pub firstAlone-breaks : FirstAloneBreaks
+firstAlone-breaks = first-alone-breaks firstAlone firstAlone-lists

@@ -1,11 +1,11 @@
--- Demand 2, in words over trees: nothing here mentions how a tree is built. "The builder gives Aho's tree, which holds every triplet entered; it refuses
+-- Demand 2, in words over trees: nothing here mentions how a tree is built. The builder gives Aho's tree, which holds every triplet entered; it refuses
 -- good input exactly when no rooted tree holds them all, naming three or more species whose links inside that set join them all. The check passes a
--- good tree exactly when no entered triplet contradicts it and each of its own triplets is forced by the entered ones on the triples that it resolves."
-use mathlib.Core.Bool.{So, false}
+-- good tree exactly when no entered triplet contradicts it and each of its own triplets is forced by the entered ones on the triples that it resolves.
+use mathlib.Core.Bool.{So}
 use mathlib.Core.List.{List, [], _∷_}
-use mathlib.Core.Logic.{_↔_, _≢_, _⊎_}
+use mathlib.Core.Logic.{_↔_, _⊎_}
 use mathlib.Core.Path.{_≡_}
-use Prim.Native.Nat.{ℕ, _*_, _<_, _≤_}
+use Prim.Native.Nat.{ℕ, _<_, _≤_}
 use lib.ListN.{drop, getD, length, take}
 use Rattle.sets.specs.Sets.{has, size}
 use Rattle.sets.specs.Species.{Inside, Species, below}
@@ -15,41 +15,18 @@ use Rattle.trees.specs.Held.{CanBeHeld, HeldBy}
 use Rattle.trees.specs.Links.{JoinedByWalks}
 use Rattle.trees.specs.Trees.{SameGroups, Tree, inHouseOrder}
 use Rattle.trees.specs.Triplets.{Triplets, holds, onTriple}
-use Rattle.tables.specs.Bytes.{entered, top}
-use Rattle.tables.specs.Index.{C, index}
+use Rattle.tables.specs.Bytes.{entered}
+use Rattle.tables.specs.Index.{index}
+use Rattle.tables.specs.Tells.{TableTells}
 use Rattle.bodies.specs.Draws.{bodyOf, treeOf}
-use Rattle.bodies.specs.Nodes.{Good, badLength, nodes, roomFor, width}
-use Rattle.answers.specs.Answers.{Told, node-count, species-count, stopping-set, table-byte, told, tree-count, triple-index}
+use Rattle.bodies.specs.Nodes.{bodyLength, nodes}
+use Rattle.answers.specs.Inputs.{Body}
+use Rattle.answers.specs.Answers.{Told, node-count, species-count, stopping-set, table-byte, told, tree-count, triple-index, value}
 use Rattle.collections.specs.Collection.{Collection}
 use Rattle.collections.specs.Layout.{bodyAt, species, trees}
 use Rattle.entering.specs.Enters.{left, outer, right}
-use Rattle.promises.specs.Candidates.{Builder, Checker, Enterer, Given, Lister, Operations, Orderer, Reader}
-
--- ---- what is good input
-
--- n species
-pub record Count (n : ℕ) : Type 0 where
-  pub some : 0 < n
-  pub most : n ≤ 64
-
--- a table of n species
-pub record Table (n : ℕ) (t : List ℕ) : Type 0 where
-  pub long : length t ≡ C n 3
-  pub small : (i : ℕ) → getD t i 0 ≤ top
-
--- a body of a tree with species below n
-pub record Body (n : ℕ) (b : List ℕ) : Type 0 where
-  pub good : Good n (nodes b)
-  pub long : badLength (length b) ≡ false
-
--- a record of three different species below n
-pub record Triplet (n : ℕ) (r : List ℕ) : Type 0 where
-  pub left-below : left r < n
-  pub right-below : right r < n
-  pub outer-below : outer r < n
-  pub pair : left r ≢ right r
-  pub left-outer : left r ≢ outer r
-  pub right-outer : right r ≢ outer r
+use Rattle.promises.specs.Operations.{Builder, Checker, Enterer, Given, Lister, Operations, Orderer, Reader}
+use Rattle.promises.specs.Inputs.{Buildable, Checkable, Enterable, Listable, Orderable}
 
 -- ---- reading: 0 for what is a collection, and for nothing else
 
@@ -62,13 +39,13 @@ ReadsAll f = (b : List ℕ) → (f b .number ≡ 0) ↔ Collection b
 abbrev pub SomeTreeHolds : List ℕ → ℕ → ℕ → ℕ → Type 0
 SomeTreeHolds b x y z = (k : ℕ) × (k < trees b) × So (holds (treeOf (bodyAt b k)) x y z)
 
-pub record Lists (b : List ℕ) (g : Given) : Type 0 where
-  pub told-is : g .told ≡ told 0 (species-count (species b) ∷ tree-count (trees b) ∷ [])
-  pub table : Table (species b) (g .after)
-  pub bits : (x y z : ℕ) → So (entered (g .after) x y z) ↔ SomeTreeHolds b x y z
+-- "sets exactly the bits that at least one of its trees holds, over all trees"
+pub record ListsRight (b : List ℕ) (g : Given) : Type 0 where
+  pub told-is : g .told ≡ told 0 (value species-count (species b) ∷ value tree-count (trees b) ∷ [])
+  pub table : TableTells (species b) (SomeTreeHolds b) (g .after)
 
 abbrev pub ListsAll : Lister → Type 0
-ListsAll f = (b t : List ℕ) → Collection b → length t ≡ C (species b) 3 → Lists b (f b t)
+ListsAll f = (b t : List ℕ) → Listable b t → ListsRight b (f b t)
 
 -- ---- entering: exactly the triplets in the records
 
@@ -79,25 +56,24 @@ RecordSays r x y z = (((left r ≡ x) × (right r ≡ y)) ⊎ ((left r ≡ y) ×
 abbrev pub SomeRecordSays : List (List ℕ) → ℕ → ℕ → ℕ → Type 0
 SomeRecordSays rs x y z = (i : ℕ) × (i < length rs) × RecordSays (getD rs i []) x y z
 
-pub record Enters (n : ℕ) (rs : List (List ℕ)) (g : Given) : Type 0 where
-  pub told-is : g .told ≡ told 0 (species-count n ∷ [])
-  pub table : Table n (g .after)
-  pub bits : (x y z : ℕ) → So (entered (g .after) x y z) ↔ SomeRecordSays rs x y z
+pub record EntersRight (n : ℕ) (rs : List (List ℕ)) (g : Given) : Type 0 where
+  pub told-is : g .told ≡ told 0 (value species-count n ∷ [])
+  pub table : TableTells n (SomeRecordSays rs) (g .after)
 
 abbrev pub EntersAll : Enterer → Type 0
-EntersAll f = (n : ℕ) (rs : List (List ℕ)) (t : List ℕ) → Count n → length t ≡ C n 3 → ((i : ℕ) → i < length rs → Triplet n (getD rs i [])) → Enters n rs (f n rs t)
+EntersAll f = (n : ℕ) (rs : List (List ℕ)) (t : List ℕ) → Enterable n rs t → EntersRight n rs (f n rs t)
 
 -- ---- a body that was written
 
--- the first 2 × (node count) bytes of the room
+-- the bytes of the room that k nodes take
 abbrev pub front : ℕ → List ℕ → List ℕ
-front k o = take (width * k) o
+front k o = take (bodyLength k) o
 
 -- in the room o a good body of k nodes was written, which gave o′: behind it nothing has changed
 pub record Wrote (n k : ℕ) (o o′ : List ℕ) : Type 0 where
   pub body : Body n (front k o′)
   pub count : nodes (front k o′) .count ≡ k
-  pub behind : drop (width * k) o′ ≡ drop (width * k) o
+  pub behind : drop (bodyLength k) o′ ≡ drop (bodyLength k) o
 
 -- ---- house order
 
@@ -106,22 +82,22 @@ pub record HouseBody (b : List ℕ) : Type 0 where
   pub preorder : b ≡ bodyOf (treeOf b)
   pub children : So (inHouseOrder (treeOf b))
 
-pub record Orders (n : ℕ) (b o : List ℕ) (g : Given) : Type 0 where
+pub record OrdersRight (n : ℕ) (b o : List ℕ) (g : Given) : Type 0 where
   pub count : ℕ
-  pub told-is : g .told ≡ told 0 (node-count count ∷ [])
+  pub told-is : g .told ≡ told 0 (value node-count count ∷ [])
   pub wrote : Wrote n count o (g .after)
   pub housed : HouseBody (front count (g .after))
   pub groups : SameGroups (treeOf (front count (g .after))) (treeOf b)
 
 abbrev pub OrdersAll : Orderer → Type 0
-OrdersAll f = (n : ℕ) (b o : List ℕ) → Count n → Body n b → length b ≤ length o → Orders n b o (f n b o)
+OrdersAll f = (n : ℕ) (b o : List ℕ) → Orderable n b o → OrdersRight n b o (f n b o)
 
 -- ---- the builder, for the entered triplets E and the species S
 
 -- Aho's tree, with exactly the species, which holds every entered triplet, in house order
 pub record Keeps (E : Triplets) (n : ℕ) (S : Species) (o : List ℕ) (g : Given) : Type 0 where
   pub count : ℕ
-  pub told-is : g .told ≡ told 0 (node-count count ∷ [])
+  pub told-is : g .told ≡ told 0 (value node-count count ∷ [])
   pub wrote : Wrote n count o (g .after)
   pub held : HeldBy E S (treeOf (front count (g .after)))
   pub aho : AhoTree E (treeOf (front count (g .after)))
@@ -130,20 +106,20 @@ pub record Keeps (E : Triplets) (n : ℕ) (S : Species) (o : List ℕ) (g : Give
 -- a set of three or more species, which links inside it join
 pub record Shows (E : Triplets) (S : Species) (g : Given) : Type 0 where
   pub set : ℕ
-  pub told-is : g .told ≡ told 10 (stopping-set set ∷ [])
+  pub told-is : g .told ≡ told 10 (value stopping-set set ∷ [])
   pub inside : Inside (has set) S
   pub three : 3 ≤ size set
   pub joined : JoinedByWalks E (has set)
 
-pub record Builds (E : Triplets) (n : ℕ) (S : Species) (o : List ℕ) (g : Given) : Type 0 where
-  pub settled : (g .told .number ≡ 0) ⊎ (g .told .number ≡ 10)
+pub record BuildsRight (E : Triplets) (n : ℕ) (S : Species) (o : List ℕ) (g : Given) : Type 0 where
+  pub one-of : (g .told .number ≡ 0) ⊎ (g .told .number ≡ 10)
   pub keeps : g .told .number ≡ 0 → Keeps E n S o g
   pub refuses : (g .told .number ≡ 10) ↔ (CanBeHeld E S → ⊥)
   pub shows : g .told .number ≡ 10 → Shows E S g
 
 -- in the base S is all n species
 abbrev pub BuildsAll : Builder → Type 0
-BuildsAll f = (n : ℕ) (t o : List ℕ) → Count n → Table n t → roomFor n ≤ length o → Builds (entered t) n (below n) o (f n t o)
+BuildsAll f = (n : ℕ) (t o : List ℕ) → Buildable n t o → BuildsRight (entered t) n (below n) o (f n t o)
 
 -- ---- the check of a tree T, against the entered triplets E, over trees with exactly the species S
 
@@ -169,17 +145,17 @@ pub record FirstTriple (n : ℕ) (P : ℕ → ℕ → ℕ → Type 0) (i : ℕ) 
   pub here : P low mid high
   pub before : (a b c : ℕ) → a < b → b < c → c < n → index a b c < i → P a b c → ⊥
 
-pub record Checks (n : ℕ) (t : List ℕ) (S : Species) (T : Tree) (r : Told) : Type 0 where
-  pub settled : (r .number ≡ 0) ⊎ ((r .number ≡ 11) ⊎ (r .number ≡ 12))
+pub record ChecksRight (n : ℕ) (t : List ℕ) (S : Species) (T : Tree) (r : Told) : Type 0 where
+  pub one-of : (r .number ≡ 0) ⊎ ((r .number ≡ 11) ⊎ (r .number ≡ 12))
   -- no entered triplet contradicts T, and each triplet of T is forced
   pub passes : (r .number ≡ 0) ↔ (((a b c : ℕ) → Contradicts (entered t) T a b c → ⊥) × PI (entered t) S T)
   -- "11 | PC fails": no tree holds the triplets of T and R together
   pub fails : (r .number ≡ 11) ↔ (PC (entered t) S T → ⊥)
-  pub contradicted : r .number ≡ 11 → (i : ℕ) × (r ≡ told 11 (triple-index i ∷ table-byte (getD t i 0) ∷ [])) × FirstTriple n (Contradicts (entered t) T) i
-  pub unforced : r .number ≡ 12 → (i : ℕ) × (r ≡ told 12 (triple-index i ∷ [])) × ((a b c : ℕ) → Contradicts (entered t) T a b c → ⊥) × FirstTriple n (Unforced (entered t) S T) i
+  pub contradicted : r .number ≡ 11 → (i : ℕ) × (r ≡ told 11 (value triple-index i ∷ value table-byte (getD t i 0) ∷ [])) × FirstTriple n (Contradicts (entered t) T) i
+  pub unforced : r .number ≡ 12 → (i : ℕ) × (r ≡ told 12 (value triple-index i ∷ [])) × ((a b c : ℕ) → Contradicts (entered t) T a b c → ⊥) × FirstTriple n (Unforced (entered t) S T) i
 
 abbrev pub ChecksAll : Checker → Type 0
-ChecksAll f = (n : ℕ) (t b : List ℕ) → Count n → Table n t → Body n b → Checks n t (below n) (treeOf b) (f n t b)
+ChecksAll f = (n : ℕ) (t b : List ℕ) → Checkable n t b → ChecksRight n t (below n) (treeOf b) (f n t b)
 
 pub record Demand2 (L : Operations) : Type 0 where
   pub reading : ReadsAll (L .read)

@@ -1,5 +1,5 @@
--- Demand 3: "Listing loses nothing: two good trees with every species give the same table exactly when they have the same groups; from such a table, with
--- the room named, the builder never refuses and returns that tree's groups and no others, in house order."
+-- Demand 3: listing loses nothing. Two good trees with every species give the same table exactly when they have the same groups; from such a table, with
+-- the room named, the builder never refuses and returns that tree's groups and no others, in house order.
 use mathlib.Core.List.{List, [], _∷_}
 use mathlib.Core.Logic.{_↔_}
 use mathlib.Core.Path.{_≡_}
@@ -10,9 +10,10 @@ use Rattle.trees.specs.Trees.{SameGroups, under}
 use Rattle.tables.specs.Index.{C}
 use Rattle.bodies.specs.Draws.{ordered, treeOf}
 use Rattle.bodies.specs.Nodes.{roomFor}
-use Rattle.answers.specs.Answers.{node-count, told}
-use Rattle.promises.specs.Candidates.{Given, Lister, Operations}
-use Rattle.promises.specs.Demand2.{Body, Count, Wrote, front}
+use Rattle.answers.specs.Answers.{node-count, told, value}
+use Rattle.promises.specs.Operations.{Given, Lister, Operations}
+use Rattle.answers.specs.Inputs.{Body, Count}
+use Rattle.promises.specs.Demand2.{Wrote, front}
 
 -- the body of a good tree with every one of n species
 pub record Full (n : ℕ) (b : List ℕ) : Type 0 where
@@ -30,7 +31,7 @@ tableOf f n b t = f (alone n b) t .after
 -- that tree's house-order body, with its groups and no others, was written
 pub record Returns (n : ℕ) (b o : List ℕ) (g : Given) : Type 0 where
   pub count : ℕ
-  pub told-is : g .told ≡ told 0 (node-count count ∷ [])
+  pub told-is : g .told ≡ told 0 (value node-count count ∷ [])
   pub wrote : Wrote n count o (g .after)
   pub body : front count (g .after) ≡ ordered b
   pub groups : SameGroups (treeOf (front count (g .after))) (treeOf b)

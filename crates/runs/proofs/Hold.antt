@@ -6,22 +6,19 @@ use Rattle.trees.specs.Links.{part, leads, parts}
 use Rattle.trees.specs.Build.{buildIn, build}
 use Rattle.tables.specs.Index.{C, index, largest, highAt, midAt, lowAt}
 use Rattle.tables.specs.Bytes.{placeOf, bitOf, entered}
-use Rattle.tables.specs.Find.{at, firstFrom, first}
-use Rattle.tables.specs.Checked.{firstDiffers, firstUnsure, checked}
-use Rattle.runs.specs.Runs.{result, Holds, starred, readings, papers, example4}
-
-pub starred-hold : Holds starred
-unfolding members digit number part leads parts buildIn build C index largest highAt midAt lowAt placeOf bitOf entered at firstFrom first firstDiffers firstUnsure checked result
-starred-hold = (refl, (refl, (refl, (refl, (refl, (refl, (refl, (refl, (refl, (refl, (refl, (refl, tt))))))))))))
+use Rattle.tables.specs.Find.{at, firstFrom, firstTriple}
+use Rattle.building.specs.Builds.{outcome}
+use Rattle.checking.specs.Checks.{firstDiffers, firstUnsure}
+use Rattle.runs.specs.Runs.{Holds, example4, papers, readings}
 
 pub readings-hold : Holds readings
-unfolding members digit number part leads parts buildIn build C index largest highAt midAt lowAt placeOf bitOf entered at firstFrom first firstDiffers firstUnsure checked result
+unfolding members digit number part leads parts buildIn build C index largest highAt midAt lowAt placeOf bitOf entered at firstFrom firstTriple firstDiffers firstUnsure outcome
 readings-hold = (refl, (refl, (refl, tt)))
 
 pub papers-hold : Holds papers
-unfolding members digit number part leads parts buildIn build C index largest highAt midAt lowAt placeOf bitOf entered at firstFrom first firstDiffers firstUnsure checked result
+unfolding members digit number part leads parts buildIn build C index largest highAt midAt lowAt placeOf bitOf entered at firstFrom firstTriple firstDiffers firstUnsure outcome
 papers-hold = (refl, (refl, (refl, (refl, (refl, (refl, (refl, (refl, tt))))))))
 
 pub example4-hold : Holds example4
-unfolding members digit number part leads parts buildIn build C index largest highAt midAt lowAt placeOf bitOf entered at firstFrom first firstDiffers firstUnsure checked result
+unfolding members digit number part leads parts buildIn build C index largest highAt midAt lowAt placeOf bitOf entered at firstFrom firstTriple firstDiffers firstUnsure outcome
 example4-hold = (refl, (refl, tt))

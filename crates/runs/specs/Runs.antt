@@ -1,35 +1,34 @@
--- The runs of document 01, "Small runs to compare", that speak of tables, the build and the check, as one table; and runs that tell readings of
--- the check apart.
-use mathlib.Core.Path.{_≡_}
+-- Runs of the build and the check, computed on the definitions: runs that tell readings of the check apart, worked examples of the papers, and document 01's
+-- example after source 000. (The runs that document 01 marks stand over the operations' answers, in `promises`.)
 use mathlib.Core.List.{List, [], _∷_}
+use mathlib.Core.Path.{_≡_}
 use Prim.Native.Nat.{ℕ}
-use Rattle.sets.specs.Species.{below}
-use Rattle.sets.specs.Sets.{number}
-use Rattle.trees.specs.Trees.{Tree, leaf, node, nil, cons}
-use Rattle.trees.specs.Build.{Outcome, tree, stop, build}
-use Rattle.tables.specs.Bytes.{entered}
-use Rattle.tables.specs.Checked.{Checked, passes, contradicted, unforced, checked}
-
--- what the build makes of a table of n species: a tree, or the number of the set that stops
-pub data Result : Type 0 where
-  gives : Tree → Result
-  refuses : ℕ → Result
-
-abbrev pub told : ℕ → Outcome → Result
-told n (tree t) = gives t
-told n (stop U) = refuses (number n U)
-
-unfoldable pub result : ℕ → List ℕ → Result
-result n t = told n (build (entered t) n (below n))
+use Rattle.trees.specs.Build.{tree}
+use Rattle.trees.specs.Trees.{Tree, cons, leaf, nil, node}
+use Rattle.answers.specs.Looks.{firstRefusal}
+use Rattle.answers.specs.declared.Look.{Look}
+use Rattle.answers.specs.declared.Look.the-variants.{Pass, Refuse}
+use Rattle.answers.specs.declared.Refusal.the-variants.{NoTree, Unforced}
+use Rattle.building.specs.Builds.{lookOutcome, outcome}
+use Rattle.checking.specs.Checks.{triplesLooks}
 
 pub data Run : Type 0 where
-  builds : ℕ → List ℕ → Result → Run
-  checks : ℕ → List ℕ → Tree → Checked → Run
+  -- the build of a table of n species gives this tree
+  builds : ℕ → List ℕ → Tree → Run
+  -- or it stops with this set
+  stops : ℕ → List ℕ → ℕ → Run
+  -- what comes of PC and PI, for a table of n species and a candidate
+  checks : ℕ → List ℕ → Tree → Look → Run
 
 abbrev pub Holds : List Run → Type 0
 Holds [] = Unit {0}
-Holds (builds n t r ∷ l) = (result n t ≡ r) × Holds l
-Holds (checks n t T v ∷ l) = (checked n t T ≡ v) × Holds l
+Holds (builds n t T ∷ l) = (outcome n t ≡ tree T) × Holds l
+Holds (stops n t u ∷ l) = (lookOutcome (outcome n t) ≡ Refuse (NoTree u)) × Holds l
+Holds (checks n t T k ∷ l) = (firstRefusal (triplesLooks n t T) ≡ k) × Holds l
+
+-- 12 at index i
+abbrev pub unforced : ℕ → Look
+unforced i = Refuse (Unforced i)
 
 -- ---- trees, as (t,u) and (t,u,v)
 
@@ -48,26 +47,9 @@ fan3 = three (leaf 0) (leaf 1) (leaf 2)
 abbrev pub nested4 : Tree
 nested4 = two cherry (leaf 3)
 
--- the runs marked * , in the order of document 01
-abbrev pub starred : List Run
-starred =
-    builds 1 [] (gives (leaf 0))
-    ∷ builds 2 [] (gives (two (leaf 0) (leaf 1)))
-    ∷ builds 3 (0 ∷ []) (gives fan3)
-    ∷ builds 4 (1 ∷ 0 ∷ 0 ∷ 1 ∷ []) (gives nested4)
-    ∷ checks 4 (1 ∷ 0 ∷ 0 ∷ 1 ∷ []) nested4 passes
-    ∷ builds 4 (3 ∷ 0 ∷ 0 ∷ 0 ∷ []) (refuses 7)
-    ∷ builds 4 (1 ∷ 2 ∷ 0 ∷ 1 ∷ []) (refuses 15)
-    ∷ checks 3 (2 ∷ []) cherry (contradicted 0 2)
-    ∷ checks 3 (3 ∷ []) cherry (contradicted 0 3)
-    ∷ checks 3 (0 ∷ []) cherry (unforced 0)
-    ∷ checks 3 (1 ∷ []) cherry passes
-    ∷ checks 3 (3 ∷ []) fan3 passes
-    ∷ []
-
 -- Runs that tell readings of the check apart. R is not the whole table, with which the first one would pass. PI names the first triple whose
--- triplet is not forced: "a and b are joined by the links on their group and its sibling" would name another one in the second run, and "the
--- group is joined beside its sibling" in the third.
+-- triplet is not forced: asking whether a and b are joined by the links on their group and its sibling would name another one in the second run, and
+-- asking whether the group is joined beside its sibling in the third.
 abbrev pub readings : List Run
 readings =
     checks 4 (0 ∷ 0 ∷ 0 ∷ 3 ∷ []) cherry (unforced 0)
@@ -85,13 +67,13 @@ apart-table = 0 ∷ 0 ∷ 0 ∷ 0 ∷ 1 ∷ 0 ∷ 0 ∷ 0 ∷ 0 ∷ 1 ∷ []
 
 abbrev pub papers : List Run
 papers =
-    builds 5 apart-table (gives apart)
+    builds 5 apart-table apart
     ∷ checks 5 apart-table apart (unforced 0)
-    ∷ builds 4 (0 ∷ 1 ∷ 1 ∷ 0 ∷ []) (gives (two fan3 (leaf 3)))
-    ∷ checks 4 (0 ∷ 1 ∷ 1 ∷ 0 ∷ []) (two fan3 (leaf 3)) passes
-    ∷ builds 4 (1 ∷ 3 ∷ 3 ∷ 3 ∷ []) (refuses 15)
-    ∷ checks 4 (1 ∷ 3 ∷ 3 ∷ 3 ∷ []) cherry passes
-    ∷ builds 4 (5 ∷ 1 ∷ 0 ∷ 0 ∷ []) (refuses 7)
+    ∷ builds 4 (0 ∷ 1 ∷ 1 ∷ 0 ∷ []) (two fan3 (leaf 3))
+    ∷ checks 4 (0 ∷ 1 ∷ 1 ∷ 0 ∷ []) (two fan3 (leaf 3)) Pass
+    ∷ stops 4 (1 ∷ 3 ∷ 3 ∷ 3 ∷ []) 15
+    ∷ checks 4 (1 ∷ 3 ∷ 3 ∷ 3 ∷ []) cherry Pass
+    ∷ stops 4 (5 ∷ 1 ∷ 0 ∷ 0 ∷ []) 7
     ∷ checks 4 (5 ∷ 1 ∷ 0 ∷ 0 ∷ []) (two fan3 (leaf 3)) (unforced 2)
     ∷ []
 
@@ -104,4 +86,4 @@ abbrev pub gap-table : List ℕ
 gap-table = 1 ∷ 1 ∷ 0 ∷ 0 ∷ 1 ∷ 0 ∷ 0 ∷ 4 ∷ 4 ∷ 0 ∷ 1 ∷ 0 ∷ 0 ∷ 4 ∷ 4 ∷ 0 ∷ 4 ∷ 4 ∷ 0 ∷ 4 ∷ []
 
 abbrev pub example4 : List Run
-example4 = builds 6 gap-table (gives gap) ∷ checks 6 gap-table gap (unforced 9) ∷ []
+example4 = builds 6 gap-table gap ∷ checks 6 gap-table gap (unforced 9) ∷ []

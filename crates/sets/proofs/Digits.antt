@@ -140,9 +140,6 @@ digit-of-has s t i e = go (digit-cases s i) (digit-cases t i)
 pub ext-has : (s t : ℕ) → ((i : ℕ) → has s i ≡ has t i) → s ≡ t
 ext-has s t h = ext s t (λ i. digit-of-has s t i (h i))
 
-pub has-inj : (s t : ℕ) → has s ≡ has t → s ≡ t
-has-inj s t e = ext-has s t (λ i. ap (λ P. P i) e)
-
 -- ---- subsets
 
 pub subset-le : (s t : ℕ) → Subset s t → (i : ℕ) → digit s i ≤ digit t i
@@ -151,12 +148,6 @@ subset-le s t h i = go (digit-cases s i)
     go : Lacks s i ⊎ Has s i → digit s i ≤ digit t i
     go (inl n) = omega arith
     go (inr m) = omega (arith, h i m)
-
-pub le-subset : (s t : ℕ) → ((i : ℕ) → digit s i ≤ digit t i) → Subset s t
-le-subset s t h i m = omega (arith, h i, digit-lt t i)
-
-pub subset-antisym : (s t : ℕ) → Subset s t → Subset t s → s ≡ t
-subset-antisym s t h k = ext s t (λ i. omega (arith, subset-le s t h i, subset-le t s k i))
 
 -- `s & t == s`
 pub meet-of-subset : (s t : ℕ) → Subset s t → meet s t ≡ s
@@ -181,13 +172,10 @@ apart s t h = ext _ _ (λ i. simp (digit-meet, digit-empty) (go i (digit-cases s
     go i (inl n) = omega arith
     go i (inr m) = omega (arith, h i m)
 
-pub of-apart : (s t : ℕ) → meet s t ≡ 0 → (i : ℕ) → Has s i → Lacks t i
-of-apart s t e i m = omega (arith, ap (λ x. digit x i) e, digit-meet s t i, digit-empty i)
-
 pub single-apart : (s i : ℕ) → Lacks s i → meet (single i) s ≡ 0
 single-apart s i n = apart (single i) s (λ j m. rw (single-is i j m) at n)
 
--- ---- differences, and one species more or less
+-- ---- differences, and one species less
 
 -- a set is what it shares with another, and the rest
 pub parts-apart : (s t : ℕ) → meet (meet s t) (minus s t) ≡ 0
@@ -213,9 +201,3 @@ minus-same s i = omega (arith, digit-minus s (single i) i, single-same i, digit-
 
 pub minus-other : (s i j : ℕ) → i ≢ j → digit (minus s (single i)) j ≡ digit s j
 minus-other s i j n = omega (arith, digit-minus s (single i) j, single-other i j n)
-
-pub with-same : (s i : ℕ) → Has (union s (single i)) i
-with-same s i = omega (arith, digit-union s (single i) i, single-same i, digit-lt s i)
-
-pub with-other : (s i j : ℕ) → i ≢ j → digit (union s (single i)) j ≡ digit s j
-with-other s i j n = omega (arith, digit-union s (single i) j, single-other i j n)

@@ -1,15 +1,14 @@
 -- What the code's own forms come to. Assumes nothing.
 use mathlib.Core.Path.{_≡_, sym, ap, _∙_}
-use mathlib.Core.Logic.{_≢_, _⊎_, inl, inr}
 use Prim.Native.Nat.{ℕ, _+_, _-_, _*_, _/_, _%_, _^_, _<_, min}
 use native.Mathlib.Nat.{one-mul}
 use native.Mathlib.Omega.{arith}
 use native.Mathlib.Decide.{ℕ-discrete, decLt}
 use lib.Dec.{lit<}
-use lib.Bits.{and-mask, and-comm}
-use lib.Pow.{shl-exact, pow-pos}
-use Rattle.sets.specs.Sets.{digit, Has, Lacks, meet, minus, single, rest}
-use Rattle.sets.proofs.Digits.{digit-empty, digit-meet, digit-minus, digit-lt, digit-high, digit-not, ext, digit-cases, single-apart, single-subset, meet-of-subset}
+use lib.Bits.{and-mask}
+use lib.Pow.{shl-exact}
+use Rattle.sets.specs.Sets.{digit, meet, minus, single, rest}
+use Rattle.sets.proofs.Digits.{digit-empty, digit-meet, digit-minus, digit-lt, digit-high, digit-not, ext}
 use Rattle.sets.proofs.Least.{pop}
 
 -- `1 << i`
@@ -28,29 +27,6 @@ and-not s t hs ht = ext _ _ (λ i. simp (digit-meet, digit-minus) (go i (decLt i
 pub test-at : (s i : ℕ) → meet (s / 2 ^ i) 1 ≡ digit s i
 unfolding digit
 test-at s i = and-mask (s / 2 ^ i) 1
-
--- `s & (1 << i)`
-pub mask-at : (s i : ℕ) → meet s (single i) ≡ digit s i * 2 ^ i
-mask-at s i = go (digit-cases s i)
-  where
-    go : Lacks s i ⊎ Has s i → meet s (single i) ≡ digit s i * 2 ^ i
-    go (inl n) = omega (arith, and-comm s (single i), single-apart s i n, ap (λ d. d * 2 ^ i) n)
-    go (inr m) = omega (arith, and-comm s (single i), meet-of-subset (single i) s (single-subset s i m), ap (λ d. d * 2 ^ i) m)
-
--- `s & (1 << i) != 0`
-pub mask-in : (s i : ℕ) → meet s (single i) ≢ 0 → Has s i
-mask-in s i n = go (digit-cases s i)
-  where
-    go : Lacks s i ⊎ Has s i → Has s i
-    go (inl o) = absurd (omega (arith, mask-at s i, ap (λ d. d * 2 ^ i) o))
-    go (inr m) = m
-
-pub mask-out : (s i : ℕ) → meet s (single i) ≡ 0 → Lacks s i
-mask-out s i e = go (digit-cases s i)
-  where
-    go : Lacks s i ⊎ Has s i → Lacks s i
-    go (inl o) = o
-    go (inr m) = absurd (omega (arith, mask-at s i, ap (λ d. d * 2 ^ i) m, pow-pos i))
 
 -- `s & (s - 1)`, where 0 - 1 wraps: s without its lowest species
 pub and-less : (s r : ℕ) → s < 2 ^ 64 → r < 2 ^ 64 → (r + 1) % 2 ^ 64 ≡ s → meet s r ≡ rest s

@@ -1,7 +1,7 @@
 -- The members of a set as a list: in increasing order, each species of the set below the bound and no other; and a walk from the lowest species up.
 -- Assumes nothing.
 use mathlib.Core.Path.{_≡_, refl, sym, ap, _∙_, subst}
-use mathlib.Core.Logic.{_↔_, _≢_, _⊎_, inl, inr, ⊎-elim}
+use mathlib.Core.Logic.{_≢_, _⊎_, inl, inr, ⊎-elim}
 use mathlib.Core.Bool.{Bool, true, false, So, false≢true}
 use mathlib.Core.List.{List, [], _∷_, List·Memᴰ, List·Memᴰ·head, List·Memᴰ·tail, List·Memᴰ·not-nil, List·Memᴰ·cases-cons}
 use Prim.Native.Nat.{ℕ, zero, suc, _+_, _^_, _≤_, _<_, zero-le}
@@ -25,10 +25,6 @@ put-ascend false i (x ∷ l) a = (omega arith, a .1)
 pub from-ascend : (S : Species) (n i : ℕ) → Ascending i (from i n S)
 from-ascend S zero i = tt
 from-ascend S (suc n) i = put-ascend (S i) i (from (suc i) n S) (from-ascend S n (suc i))
-
-pub members-ascend : (n : ℕ) (S : Species) → Ascending 0 (members n S)
-unfolding members
-members-ascend n S = from-ascend S n 0
 
 -- ---- which numbers
 
@@ -58,10 +54,6 @@ in-from S x (suc n) i le lt h = go (ℕ-discrete x i) (λ l. in-from S x n (suc 
     go : Dec (x ≡ i) → (suc i ≤ x → List·Memᴰ x (from (suc i) n S)) → List·Memᴰ x (from i (suc n) S)
     go (yes e) ih = put-here (S i) i _ x e (subst (λ (k : ℕ). So (S k)) e h)
     go (no f) ih = put-later (S i) i _ x (ih (omega arith))
-
-pub members-iff : (n : ℕ) (S : Species) (x : ℕ) → List·Memᴰ x (members n S) ↔ ((x < n) × So (S x))
-unfolding members
-members-iff n S x = (λ m. let r = of-from S x n 0 m in (omega (arith, r .1), r .2), λ p. in-from S x n 0 zero-le (omega (arith, p .0)) (p .1))
 
 -- ---- lists of two sets
 

@@ -1,8 +1,8 @@
 -- The size of a set, which is what `u64::count_ones` gives. Assumes nothing.
 use mathlib.Core.Path.{_≡_, refl, sym, ap, _∙_}
-use mathlib.Core.Logic.{_≢_, _⊎_, inl, inr}
+use mathlib.Core.Logic.{_≢_}
 use mathlib.Core.List.{List}
-use Prim.Native.Nat.{ℕ, zero, suc, _+_, _/_, _%_, _^_, _≤_, _<_}
+use Prim.Native.Nat.{ℕ, zero, suc, _+_, _/_, _^_, _≤_, _<_}
 use native.Mathlib.Nat.{div-one}
 use native.Mathlib.Numerals.{add-one}
 use native.Mathlib.Omega.{arith}
@@ -12,11 +12,11 @@ use lib.Dec.{eqb}
 use lib.ListN.{length}
 use lib.Pow.{shr-shr}
 use lib.Bits.{and-shr, or-shr, and-step, or-step, and-comm, or-comm}
-use lib.Count.{ones, onesIn, ones-step, ones-ones, ones-le}
+use lib.Count.{ones, ones-step, ones-ones, ones-le}
 use Rattle.sets.specs.Species.{put, from, members}
 use Rattle.sets.specs.Sets.{digit, has, Has, Lacks, Subset, union, meet, minus, single, upto, size}
-use Rattle.sets.proofs.Digits.{half-lt, digit-lt, digit-minus, digit-empty, parity, ext, subset-le, meet-of-subset}
-use Rattle.sets.proofs.Digits.{parts, parts-apart, single-is, single-subset, single-apart}
+use Rattle.sets.proofs.Digits.{half-lt, digit-lt, digit-minus, digit-empty, ext, subset-le, meet-of-subset}
+use Rattle.sets.proofs.Digits.{parts, parts-apart, single-subset, single-apart}
 
 pub size-empty : size 0 ≡ 0
 unfolding ones
@@ -55,30 +55,11 @@ size-single (suc i) =
     let e : 2 ^ suc i / 2 ≡ 2 ^ i = omega arith in
     omega (arith, rw e at (ones-step (2 ^ suc i)), size-single i)
 
-double : (s i : ℕ) → s % 2 ≡ 0 → s / 2 ≡ 2 ^ i → s ≡ 2 ^ suc i
-double s i e h = omega arith
-
-pub size-one : (s : ℕ) → size s ≡ 1 → (i : ℕ) × (s ≡ single i)
-size-one = bin-ind (λ (s : ℕ). size s ≡ 1 → (i : ℕ) × (s ≡ single i)) (λ h. absurd (omega (arith, size-empty))) (λ s ih h. go s ih h (parity s))
-  where
-    go : (s : ℕ) → (size (s / 2) ≡ 1 → (i : ℕ) × (s / 2 ≡ single i)) → size s ≡ 1 → (s % 2 ≡ 0) ⊎ (s % 2 ≡ 1) → (i : ℕ) × (s ≡ single i)
-    go s ih h (inl e) = let p = ih (omega (arith, ones-step s)) in (suc (p .0), double s (p .0) e (p .1))
-    go s ih h (inr e) = (0, omega (arith, size-zero (s / 2) (omega (arith, ones-step s))))
-
-pub size-one-is : (s i : ℕ) → size s ≡ 1 → Has s i → s ≡ single i
-size-one-is s i h m = let p = size-one s h in p .1 ∙ ap single (single-is (p .0) i (ap (λ x. digit x i) (sym (p .1)) ∙ m))
-
 pub size-upto : (n : ℕ) → size (upto n) ≡ n
 size-upto n = ones-ones n
 
 pub size-le : (k s : ℕ) → s < 2 ^ k → size s ≤ k
 size-le k s h = ones-le k s h
-
--- to compute the size of a number that is written out, in k steps
-pub size-computes : (k s : ℕ) → s < 2 ^ k → size s ≡ onesIn k s
-unfolding onesIn
-size-computes zero s h = let z : s ≡ 0 = omega arith in ap ones z ∙ size-empty
-size-computes (suc k) s h = omega (arith, ones-step s, size-computes k (s / 2) (half-lt k s h))
 
 -- a set that holds s has the size of s and of what it has more
 pub size-over : (s t : ℕ) → Subset s t → size s + size (minus t s) ≡ size t

@@ -67,24 +67,11 @@ pub fn with(s: u64, i: usize) -> u64
     s | single(i)
 }
 
-pub fn without(s: u64, i: usize) -> u64
-    requires { ⌜ i < 64 ⌝ }
-    ensures { λ r. ⌜ r ≡ minus s (single i) ⌝ }
-{
-    s & !single(i)
-}
-
 // Is every species of s in t?
 pub fn subset(s: u64, t: u64) -> bool
     ensures { λ r. ⌜ (r ≡ true) ↔ Subset s t ⌝ }
 {
     s & t == s
-}
-
-pub fn empty(s: u64) -> bool
-    ensures { λ r. ⌜ (r ≡ true) ↔ (s ≡ 0) ⌝ }
-{
-    s == 0
 }
 
 // All species below n.

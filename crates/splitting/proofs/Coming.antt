@@ -23,7 +23,7 @@ use Rattle.trees.proofs.Parts.{leads-i, leads-in, leads-lowest, part-in, part-r
 use Rattle.trees.proofs.Flooding.{flooded-part}
 use Rattle.trees.specs.Links.{leads, part, parts}
 use Rattle.trees.specs.Triplets.{Proper, Triplets}
-use Rattle.splitting.specs.Rows.{Rows, Shows, flag}
+use Rattle.splitting.specs.Rows.{Rows, RowsShow, flag}
 use Rattle.splitting.specs.Split.{partsOf}
 
 unfoldable pub coming : Triplets → ℕ → ℕ → List ℕ
@@ -151,10 +151,10 @@ module _ (E : Triplets) (pr : Proper E) (s : ℕ) (hs : s < 2 ^ 64) where
       let z : coming E s left ≡ [] = ap (coming E s) e ∙ coming-end in
       (omega (arith, w .count, ap length z), sym (ap (sets l k) z) ∙ w .stored)
 
-  module _ (g : Rows) (sh : Shows g E s) (l₀ l : List ℕ) (left k : ℕ) (n : left ≢ 0) (a : ℕ) (lo : Lowest left a) (p : ℕ) (hp : p < 2 ^ 64) (f : Flooded (flag g) a p)
+  module _ (g : Rows) (sh : RowsShow g E s) (l₀ l : List ℕ) (left k : ℕ) (n : left ≢ 0) (a : ℕ) (lo : Lowest left a) (p : ℕ) (hp : p < 2 ^ 64) (f : Flooded (flag g) a p)
       (w : Listed E s l₀ l left k) where
     is-part : has p ≡ part E 64 (has s) a
-    unfolding Shows
+    unfolding RowsShow
     is-part = flooded-part E pr s hs (flag g) a p (a-in left n a lo (w .whole)) sh f
 
     next : coming E s left ≡ p ∷ coming E s (minus left p)

@@ -14,15 +14,15 @@ use Rattle.trees.proofs.Parts.{linked-e, linked-i}
 use Rattle.trees.specs.Links.{linked}
 use Rattle.trees.specs.Triplets.{Proper, Triplets}
 use Rattle.splitting.proofs.Stores.{no-flag}
-use Rattle.splitting.specs.Rows.{Grown, InLevel, Pair, Rows, Shows, Some, Ties, flag}
+use Rattle.splitting.specs.Rows.{Flagged, InLevel, Pair, Rows, RowsShow, Some, Ties, flag}
 
 -- m: the species of s below k
 module _ (s k m : ℕ) (e : m ≡ meet s (upto k)) where
   pub under-below : Below k (has m)
   under-below x p = under-e s k x (subst (λ (z : ℕ). So (has z x)) e p) .1
 
-  pub grown-under : (R : ℕ → ℕ → ℕ → Type 0) {g g′ : Rows} → Grown (R m) g g′ → Grown (R (meet s (upto k))) g g′
-  grown-under R {g} {g′} r = subst (λ (z : ℕ). Grown (R z) g g′) e r
+  pub grown-under : (R : ℕ → ℕ → ℕ → Type 0) {g g′ : Rows} → Flagged (R m) g g′ → Flagged (R (meet s (upto k))) g g′
+  grown-under R {g} {g′} r = subst (λ (z : ℕ). Flagged (R z) g g′) e r
 
 -- what all triples of s tell
 abbrev pub InTriples : Triplets → ℕ → ℕ → ℕ → Type 0
@@ -71,8 +71,8 @@ module _ (E : Triplets) (pr : Proper E) (s : ℕ) (hs : s < 2 ^ 64) where
       (λ l. close-triple y x c x y l (w .1) (w .0) (w .2 .1) (pr .swap x y c e, inr (refl, refl)))
 
   -- from rows with no flag
-  pub triples-show : {g : Rows} → Grown (InTriples E s) (replicate 64 (replicate 64 false)) g → Shows g E s
-  unfolding Shows
+  pub triples-show : {g : Rows} → Flagged (InTriples E s) (replicate 64 (replicate 64 false)) g → RowsShow g E s
+  unfolding RowsShow
   triples-show {g} r x y = bool-ext (flag g x y) (linked E 64 (has s) x y)
       (λ h. ⊎-elim (λ k. absurd (false≢true (sym (no-flag 64 64 x y) ∙ k))) (triple-link x y) (r .flags x y .0 h))
       (λ h. r .flags x y .1 (inr (link-triple x y h)))

@@ -11,12 +11,12 @@ use lib.ListN.{getD, getD-replicate, length, length-replicate, length-set, repli
 use lib.Seq.{getD-set-other, getD-set-same}
 use Rattle.sets.proofs.Bools.{ne-e, test}
 use Rattle.trees.specs.Triplets.{Triplets}
-use Rattle.splitting.specs.Rows.{Grown, Pair, Rows, Square, Ties, flag}
+use Rattle.splitting.specs.Rows.{Flagged, Pair, Rows, Square, Ties, flag}
 
 -- ---- growing
 
 module _ {R Q : ℕ → ℕ → Type 0} where
-  pub grown-as : {g h : Rows} → ((x y : ℕ) → R x y ↔ Q x y) → Grown R g h → Grown Q g h
+  pub grown-as : {g h : Rows} → ((x y : ℕ) → R x y ↔ Q x y) → Flagged R g h → Flagged Q g h
   grown-as f r = record {
     square = r .square;
     flags = λ x y. (
@@ -25,7 +25,7 @@ module _ {R Q : ℕ → ℕ → Type 0} where
     );
   }
 
-  pub grown-both : {g h k : Rows} → Grown R g h → Grown Q h k → Grown (λ x y. R x y ⊎ Q x y) g k
+  pub grown-both : {g h k : Rows} → Flagged R g h → Flagged Q h k → Flagged (λ x y. R x y ⊎ Q x y) g k
   grown-both r q = record {
     square = q .square;
     flags = λ x y. (
@@ -34,7 +34,7 @@ module _ {R Q : ℕ → ℕ → Type 0} where
     );
   }
 
-pub grown-none : {R : ℕ → ℕ → Type 0} {g : Rows} → Square g → ((x y : ℕ) → R x y → ⊥) → Grown R g g
+pub grown-none : {R : ℕ → ℕ → Type 0} {g : Rows} → Square g → ((x y : ℕ) → R x y → ⊥) → Flagged R g g
 grown-none s f = record { square = s; flags = λ x y. (λ k. inl k, λ k. ⊎-elim (λ p. p) (λ p. absurd (f x y p)) k) }
 
 -- ---- a store
@@ -64,23 +64,23 @@ module _ (g : Rows) (a b : ℕ) (s : Square g) (ha : a < 64) (hb : b < 64) where
         (λ e. length-set (getD g a []) b true ∙ s .flags a ha) (λ e. s .flags i l);
   }
 
-  grown-marked : Grown (λ x y. (x ≡ a) × (y ≡ b)) g (marked g a b)
+  grown-marked : Flagged (λ x y. (x ≡ a) × (y ≡ b)) g (marked g a b)
   grown-marked = record { square = square-marked; flags = flag-marked }
 
 -- both flags of a pair
 module _ (on : Bool) (a b : ℕ) (g : Rows) (s : Square g) where
-  pub join-on : a < 64 → b < 64 → So on → Grown (Pair on a b) g (marked (marked g a b) b a)
+  pub join-on : a < 64 → b < 64 → So on → Flagged (Pair on a b) g (marked (marked g a b) b a)
   join-on ha hb h = grown-as (λ x y. (λ p. (h, p), λ p. p .1))
       (grown-both (grown-marked g a b s ha hb) (grown-marked (marked g a b) b a (square-marked g a b s ha hb) hb ha))
 
-  pub join-off : on ≡ false → Grown (Pair on a b) g g
+  pub join-off : on ≡ false → Flagged (Pair on a b) g g
   join-off e = grown-none s (λ x y p. false≢true (sym e ∙ p .0))
 
 -- the three triplets on a triple
 pub join-three : (E : Triplets) (a b c : ℕ) (p q r : Bool) {g h k l : Rows} → p ≡ E a b c → q ≡ E a c b → r ≡ E b c a
-    → Grown (Pair p a b) g h → Grown (Pair q a c) h k → Grown (Pair r b c) k l → Grown (Ties E a b c) g l
-join-three E a b c p q r {g} {h} {k} {l} e₁ e₂ e₃ g₁ g₂ g₃ = grown-both (subst (λ (z : Bool). Grown (Pair z a b) g h) e₁ g₁)
-    (grown-both (subst (λ (z : Bool). Grown (Pair z a c) h k) e₂ g₂) (subst (λ (z : Bool). Grown (Pair z b c) k l) e₃ g₃))
+    → Flagged (Pair p a b) g h → Flagged (Pair q a c) h k → Flagged (Pair r b c) k l → Flagged (Ties E a b c) g l
+join-three E a b c p q r {g} {h} {k} {l} e₁ e₂ e₃ g₁ g₂ g₃ = grown-both (subst (λ (z : Bool). Flagged (Pair z a b) g h) e₁ g₁)
+    (grown-both (subst (λ (z : Bool). Flagged (Pair z a c) h k) e₂ g₂) (subst (λ (z : Bool). Flagged (Pair z b c) k l) e₃ g₃))
 
 -- ---- the rows as they are made
 

@@ -12,12 +12,12 @@ use Rattle.sets.proofs.Tests.{has-single, number-unique, true-has}
 use Rattle.sets.specs.Sets.{Lowest, Rest, has, minus, number, single, union}
 use Rattle.sets.specs.Species.{Species}
 use Rattle.splitting.proofs.Stores.{grown-none}
-use Rattle.splitting.specs.Rows.{Grown, Rows, Some, Square}
+use Rattle.splitting.specs.Rows.{Flagged, Rows, Some, Square}
 
 -- g grew from g₀ by what Q tells of the species of s that are not left
 pub record Walked (s : ℕ) (Q : ℕ → ℕ → ℕ → Type 0) (g₀ g : Rows) (left : ℕ) : Type 0 where
   pub inside : (k : ℕ) → So (has left k) → So (has s k)
-  pub grown : Grown (λ x y. (k : ℕ) × So (has s k) × (So (has left k) → ⊥) × Q k x y) g₀ g
+  pub grown : Flagged (λ x y. (k : ℕ) × So (has s k) × (So (has left k) → ⊥) × Q k x y) g₀ g
 
 module _ {s : ℕ} {Q : ℕ → ℕ → ℕ → Type 0} where
   pub walk-start : {g : Rows} → Square g → Walked s Q g g s
@@ -26,7 +26,7 @@ module _ {s : ℕ} {Q : ℕ → ℕ → ℕ → Type 0} where
   pub walk-in : {g₀ g : Rows} {left k : ℕ} → left ≢ 0 → Lowest left k → Walked s Q g₀ g left → So (has s k)
   walk-in {g₀} {g} {left} {k} n lo w = w .inside k (true-has left k (lo .member n))
 
-  pub walk-next : {g₀ g g′ : Rows} {left k left′ : ℕ} → left ≢ 0 → Lowest left k → Rest left left′ → Grown (Q k) g g′ → Walked s Q g₀ g left → Walked s Q g₀ g′ left′
+  pub walk-next : {g₀ g g′ : Rows} {left k left′ : ℕ} → left ≢ 0 → Lowest left k → Rest left left′ → Flagged (Q k) g g′ → Walked s Q g₀ g left → Walked s Q g₀ g′ left′
   walk-next {g₀} {g} {g′} {left} {k} {left′} n lo re q w =
       let m : So (has left k) = true-has left k (lo .member n) in
       let e : left′ ≡ minus left (single k) = re .is ∙ ap (λ (z : ℕ). minus left (single z)) (sym (lo .is)) in
@@ -53,7 +53,7 @@ module _ {s : ℕ} {Q : ℕ → ℕ → ℕ → Type 0} where
         };
       }
 
-  pub walk-end : {g₀ g : Rows} {left : ℕ} → left ≡ 0 → Walked s Q g₀ g left → Grown (Some s Q) g₀ g
+  pub walk-end : {g₀ g : Rows} {left : ℕ} → left ≡ 0 → Walked s Q g₀ g left → Flagged (Some s Q) g₀ g
   walk-end e w = record {
     square = w .grown .square;
     flags = λ x y. (

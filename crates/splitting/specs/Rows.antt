@@ -21,8 +21,8 @@ pub record Square (g : Rows) : Type 0 where
   pub flags : (i : ℕ) → i < 64 → length (getD g i []) ≡ 64
 
 -- the rows say which species are linked on s
-unfoldable pub Shows : Rows → Triplets → ℕ → Type 0
-Shows g E s = (x y : ℕ) → flag g x y ≡ linked E 64 (has s) x y
+unfoldable pub RowsShow : Rows → Triplets → ℕ → Type 0
+RowsShow g E s = (x y : ℕ) → flag g x y ≡ linked E 64 (has s) x y
 
 -- ---- what is linked on the way
 
@@ -46,6 +46,6 @@ abbrev pub InLevel : Triplets → ℕ → ℕ → ℕ → ℕ → Type 0
 InLevel E s c = Some s (λ b. InRow E (meet s (upto b)) b c)
 
 -- g′ has the flags of g, and those that R tells
-pub record Grown (R : ℕ → ℕ → Type 0) (g g′ : Rows) : Type 0 where
+pub record Flagged (R : ℕ → ℕ → Type 0) (g g′ : Rows) : Type 0 where
   pub square : Square g′
   pub flags : (x y : ℕ) → So (flag g′ x y) ↔ (So (flag g x y) ⊎ R x y)

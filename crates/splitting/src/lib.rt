@@ -7,13 +7,13 @@ ghost use Rattle.sets.specs.Sets.{has, number};
 ghost use Rattle.sets.specs.Floods.{Flooded};
 ghost use Rattle.sets.specs.Species.{Below};
 ghost use Rattle.tables.specs.Bytes.{entered};
-ghost use Rattle.splitting.specs.Rows.{flag, Square, Shows, Pair, Ties, InRow, InLevel, Grown};
+ghost use Rattle.splitting.specs.Rows.{flag, Square, RowsShow, Pair, Ties, InRow, InLevel, Flagged};
 ghost use Rattle.splitting.specs.Split.{partsOf};
 
 // Links a and b where it is on.
 fn join(on: bool, a: usize, b: usize, g: &mut [[bool; 64]; 64])
     requires { ⌜ (a < 64) × (b < 64) × Square (now g) ⌝ }
-    ensures { λ _. ⌜ Grown (Pair on a b) (now (g .entry)) (now (g .exit)) ⌝ }
+    ensures { λ _. ⌜ Flagged (Pair on a b) (now (g .entry)) (now (g .exit)) ⌝ }
 {
     if on {
         g[a][b] = true;
@@ -24,9 +24,9 @@ fn join(on: bool, a: usize, b: usize, g: &mut [[bool; 64]; 64])
 // Links what is entered of the triple a < b < c.
 fn note(t: &[u8], a: usize, b: usize, c: usize, g: &mut [[bool; 64]; 64])
     requires { ⌜ (a < b) × (b < c) × (c < 64) × Square (now g) ⌝ }
-    ensures { λ _. ⌜ Grown (Ties (entered (now (t .entry))) a b c) (now (g .entry)) (now (g .exit)) ⌝ }
+    ensures { λ _. ⌜ Flagged (Ties (entered (now (t .entry))) a b c) (now (g .entry)) (now (g .exit)) ⌝ }
 {
-    let s = tables::look(t, a, b, c);
+    let s = tables::bits_of(t, a, b, c);
     join(s.ab, a, b, g);
     join(s.ac, a, c, g);
     join(s.bc, b, c, g);
@@ -35,7 +35,7 @@ fn note(t: &[u8], a: usize, b: usize, c: usize, g: &mut [[bool; 64]; 64])
 // The triples with b and c, and the lowest from `low`.
 fn row(t: &[u8], low: u64, b: usize, c: usize, g: &mut [[bool; 64]; 64])
     requires { ⌜ Below b (has low) × (b < c) × (c < 64) × Square (now g) ⌝ }
-    ensures { λ _. ⌜ Grown (InRow (entered (now (t .entry))) low b c) (now (g .entry)) (now (g .exit)) ⌝ }
+    ensures { λ _. ⌜ Flagged (InRow (entered (now (t .entry))) low b c) (now (g .entry)) (now (g .exit)) ⌝ }
 {
     let mut left = low;
     while left != 0 {
@@ -47,7 +47,7 @@ fn row(t: &[u8], low: u64, b: usize, c: usize, g: &mut [[bool; 64]; 64])
 // The triples whose highest species is c, and the two others from `low`.
 fn level(t: &[u8], low: u64, c: usize, g: &mut [[bool; 64]; 64])
     requires { ⌜ Below c (has low) × (c < 64) × Square (now g) ⌝ }
-    ensures { λ _. ⌜ Grown (InLevel (entered (now (t .entry))) low c) (now (g .entry)) (now (g .exit)) ⌝ }
+    ensures { λ _. ⌜ Flagged (InLevel (entered (now (t .entry))) low c) (now (g .entry)) (now (g .exit)) ⌝ }
 {
     let mut left = low;
     while left != 0 {
@@ -59,7 +59,7 @@ fn level(t: &[u8], low: u64, c: usize, g: &mut [[bool; 64]; 64])
 
 // The links on s: all triples with their three species in s.
 fn links(t: &[u8], s: u64) -> [[bool; 64]; 64]
-    ensures { λ r. ⌜ Shows r (entered (now (t .entry))) s ⌝ }
+    ensures { λ r. ⌜ RowsShow r (entered (now (t .entry))) s ⌝ }
 {
     let mut g = [[false; 64]; 64];
     let mut left = s;
@@ -105,7 +105,8 @@ fn part(g: &[[bool; 64]; 64], a: usize) -> u64
 // The connected parts of s, by lowest species, to the front of `parts`. Returns how many there are.
 pub fn split(t: &[u8], s: u64, parts: &mut [u64; 64]) -> usize
     requires { ⌜ length (now parts) ≡ 64 ⌝ }
-    ensures { λ r. ⌜ (r ≡ length (partsOf (entered (now (t .entry))) s)) × (now (parts .exit) ≡ sets (now (parts .entry)) 0 (partsOf (entered (now (t .entry))) s)) ⌝ }
+    ensures { λ r. ⌜ r ≡ length (partsOf (entered (now (t .entry))) s) ⌝ }
+    ensures { λ _. ⌜ now (parts .exit) ≡ sets (now (parts .entry)) 0 (partsOf (entered (now (t .entry))) s) ⌝ }
 {
     let g = links(t, s);
     let mut rest = s;

@@ -7,12 +7,12 @@ use Prim.Native.Nat.{_<_, _≤_, ℕ}
 use native.Mathlib.Omega.{arith}
 use borrow.Author.Tests.{eqb-true, ltb-false, ltb-true, not-true}
 use lib.Dec.{eqb, ltb}
-use lib.ListN.{List·getD-eq-default, getD, length, length-set, replicate, set}
+use lib.ListN.{List·getD-eq-default, getD, length, length-set, replicate}
 use lib.Seq.{getD-set-other, getD-set-same}
 use Rattle.sets.proofs.Bools.{and-i, and-l, and-r, ne-e, not-i, test}
 use Rattle.sets.proofs.Tests.{has-empty, has-single, has-union}
 use Rattle.sets.proofs.Zeros.{zero-at}
-use Rattle.sets.specs.Sets.{has, single, union}
+use Rattle.sets.specs.Sets.{has, single}
 use Rattle.trees.proofs.Triplets.{different-e, different-i, different-swap}
 use Rattle.trees.specs.Triplets.{Proper, both, different, only}
 use Rattle.tables.proofs.Indices.{C-more}
@@ -140,22 +140,3 @@ module _ (t : List ℕ) (a b c : ℕ) where
       stays = λ i n. ap (λ (s : List ℕ). getD s i 0) e ∙ enter-stays i n;
       long = ap length e ∙ enter-length;
     }
-
--- ---- entering into the byte of a < b < c
-
-module _ (t : List ℕ) (a b c : ℕ) (p : a < b) (q : b < c) where
-  -- the byte with one more bit
-  abbrev pub marked : ℕ → List ℕ
-  marked k = set t (index a b c) (union (getD t (index a b c) 0) k)
-
-  pub marked-ab : marked 1 ≡ enter t a b c
-  unfolding enter
-  marked-ab = rw (place-ab a b c p q, bit-ab a b c p q) refl
-
-  pub marked-ac : marked 2 ≡ enter t a c b
-  unfolding enter
-  marked-ac = rw (place-ac a b c p q, bit-ac a b c p q) refl
-
-  pub marked-bc : marked 4 ≡ enter t b c a
-  unfolding enter
-  marked-bc = rw (place-bc a b c p q, bit-bc a b c p q) refl

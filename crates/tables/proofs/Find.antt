@@ -1,4 +1,4 @@
--- The first triple in index order: what `first` gives, that it is the only such index, and what it is where there is none. Assumes nothing.
+-- The first triple in index order: what `firstTriple` gives, that it is the only such index, and what it is where there is none. Assumes nothing.
 use mathlib.Core.Bool.{Bool, So, cond, false, not, true}
 use mathlib.Core.Logic.{_↔_}
 use mathlib.Core.Path.{_∙_, _≡_, ap, refl, subst}
@@ -9,7 +9,7 @@ use lib.Dec.{eqb}
 use Rattle.sets.proofs.Bools.{by-order, ne-e, not-e, test}
 use Rattle.trees.specs.Triplets.{Triplets, onTriple}
 use Rattle.tables.proofs.Indices.{high-of, index-lt, low-of, mid-of, triple-back}
-use Rattle.tables.specs.Find.{at, first, firstFrom}
+use Rattle.tables.specs.Find.{at, firstTriple, firstFrom}
 use Rattle.tables.specs.Index.{C, highAt, index, lowAt, midAt}
 
 -- P speaks of the triple a < b < c at its index
@@ -38,38 +38,38 @@ firsts m P (suc k) i = step (at m P i) (firstFrom m P k (suc i)) refl (firsts m 
     )
 
 module _ (n : ℕ) (P : Triplets) where
-  first-spec : Firsts n P 0 (C n 3) (first n P)
-  unfolding first
+  first-spec : Firsts n P 0 (C n 3) (firstTriple n P)
+  unfolding firstTriple
   first-spec = firsts n P (C n 3) 0
 
-  pub first-le : first n P ≤ C n 3
+  pub first-le : firstTriple n P ≤ C n 3
   first-le = omega (arith, first-spec .1)
 
-  pub first-at : first n P < C n 3 → So (at n P (first n P))
+  pub first-at : firstTriple n P < C n 3 → So (at n P (firstTriple n P))
   first-at l = first-spec .2 (omega arith)
 
-  pub first-least : (j : ℕ) → j < first n P → So (not (at n P j))
+  pub first-least : (j : ℕ) → j < firstTriple n P → So (not (at n P j))
   first-least j l = first-spec .3 j (omega arith) l
 
   -- some triplet on the triple with that index, and none on a triple with a smaller one
-  pub first-found : first n P < C n 3 → So (onTriple P (lowAt n (first n P)) (midAt n (first n P)) (highAt n (first n P)))
-      × ((a b c : ℕ) → a < b → b < c → c < n → index a b c < first n P → So (not (onTriple P a b c)))
+  pub first-found : firstTriple n P < C n 3 → So (onTriple P (lowAt n (firstTriple n P)) (midAt n (firstTriple n P)) (highAt n (firstTriple n P)))
+      × ((a b c : ℕ) → a < b → b < c → c < n → index a b c < firstTriple n P → So (not (onTriple P a b c)))
   unfolding at
   first-found l = (first-at l, λ a b c p q r h. subst (λ (x : Bool). So (not x)) (at-index n P a b c p q r) (first-least (index a b c) h))
 
   -- the only index with those two properties
-  pub first-is : (i : ℕ) → i < C n 3 → So (at n P i) → ((j : ℕ) → j < i → So (not (at n P j))) → first n P ≡ i
-  first-is i l h f = by-order (first n P) i
-      (λ k. absurd (not-e (at n P (first n P)) (f (first n P) k) (first-at (omega arith))))
+  pub first-is : (i : ℕ) → i < C n 3 → So (at n P i) → ((j : ℕ) → j < i → So (not (at n P j))) → firstTriple n P ≡ i
+  first-is i l h f = by-order (firstTriple n P) i
+      (λ k. absurd (not-e (at n P (firstTriple n P)) (f (firstTriple n P) k) (first-at (omega arith))))
       (λ e. e)
       (λ k. absurd (not-e (at n P i) (first-least i k) h))
 
-  pub first-none : (first n P ≡ C n 3) ↔ ((a b c : ℕ) → a < b → b < c → c < n → So (onTriple P a b c) → ⊥)
+  pub first-none : (firstTriple n P ≡ C n 3) ↔ ((a b c : ℕ) → a < b → b < c → c < n → So (onTriple P a b c) → ⊥)
   unfolding at
   first-none = (
     (λ e a b c p q r h. not-e (at n P (index a b c)) (first-least (index a b c) (omega (arith, index-lt a b c n p q r))) (at-index n P a b c p q r ∙ h)),
-    λ f. by-order (first n P) (C n 3)
-        (λ l. let r = triple-back n (first n P) l in absurd (f (lowAt n (first n P)) (midAt n (first n P)) (highAt n (first n P)) (r .0) (r .1) (r .2) (first-at l)))
+    λ f. by-order (firstTriple n P) (C n 3)
+        (λ l. let r = triple-back n (firstTriple n P) l in absurd (f (lowAt n (firstTriple n P)) (midAt n (firstTriple n P)) (highAt n (firstTriple n P)) (r .0) (r .1) (r .2) (first-at l)))
         (λ e. e)
         (λ l. absurd (omega (arith, first-le))),
   )

@@ -7,6 +7,7 @@ pub mod Bytes
 pub mod Limits
 pub mod Find
 pub mod Search
-pub mod Passing
 pub mod Fillings
+pub mod Adding
+pub mod Telling
 pub mod Known

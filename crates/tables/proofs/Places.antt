@@ -1,5 +1,5 @@
 -- Where a triplet stands: the order of its three species, the place of its triple, and its bit. Assumes nothing.
-use mathlib.Core.Bool.{Bool, So, _&&_, cond}
+use mathlib.Core.Bool.{Bool, So, _&&_, cond, false, true}
 use mathlib.Core.Logic.{_≢_, _⊎_, inl, inr, ⊎-elim}
 use mathlib.Core.Path.{_∙_, _≡_, ap, ap₂, refl, subst, sym}
 use Prim.Native.Nat.{_+_, _-_, _<_, _≤_, max, min, suc, zero, ℕ}
@@ -28,6 +28,15 @@ module _ (a b c : ℕ) where
   pub bit-low : c ≤ max a b → c ≤ min a b → bitOf a b c ≡ 2
   unfolding bitOf
   bit-low h l = ap₂ (λ (x y : Bool). cond x 0 (cond y 1 2)) (le-ltb (max a b) c h) (le-ltb (min a b) c l)
+
+pub bit-most : (a b c : ℕ) → bitOf a b c < 3
+unfolding bitOf
+bit-most a b c = go (ltb (max a b) c) (ltb (min a b) c)
+  where
+    go : (x y : Bool) → cond x 0 (cond y 1 2) < 3
+    go true y = omega arith
+    go false true = omega arith
+    go false false = omega arith
 
 -- ---- low, mid and high by the lower and the higher of the first two
 

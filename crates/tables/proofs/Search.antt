@@ -11,7 +11,7 @@ use Rattle.sets.proofs.Bools.{by-order, lt-of-ne, not-e, test}
 use Rattle.trees.specs.Triplets.{Triplets, onTriple}
 use Rattle.tables.proofs.Find.{at-index, first-at, first-is, first-le}
 use Rattle.tables.proofs.Indices.{C-none, C-three, C-two, index-lt}
-use Rattle.tables.specs.Find.{at, first}
+use Rattle.tables.specs.Find.{at, firstTriple}
 use Rattle.tables.specs.Index.{C, index}
 use Rattle.tables.specs.Finds.{Finds}
 use Rattle.tables.specs.declared.Found.the-variants.{At, Nowhere}
@@ -66,8 +66,8 @@ module _ (n : ℕ) (P : Triplets) where
   pub finds-nowhere : (c : ℕ) → c ≡ n → Clear n P (index 0 0 c) → Finds n P Nowhere
   finds-nowhere c e h =
       let all : index 0 0 c ≡ C n 3 = ap (index 0 0) e ∙ last n in
-      by-order (first n P) (C n 3)
-      (λ l. absurd (not-e (at n P (first n P)) (h (first n P) (omega (arith, all))) (first-at n P l)))
+      by-order (firstTriple n P) (C n 3)
+      (λ l. absurd (not-e (at n P (firstTriple n P)) (h (firstTriple n P) (omega (arith, all))) (first-at n P l)))
       (λ x. x)
       (λ l. absurd (omega (arith, first-le n P)))
 

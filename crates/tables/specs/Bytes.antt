@@ -4,7 +4,7 @@ use mathlib.Core.Path.{_≡_}
 use mathlib.Core.Logic.{_≢_}
 use mathlib.Core.Bool.{Bool, cond, not, _&&_, _||_}
 use mathlib.Core.List.{List, [], _∷_}
-use Prim.Native.Nat.{ℕ, suc, min, max}
+use Prim.Native.Nat.{ℕ, suc, min, max, _≤_}
 use lib.Dec.{eqb, ltb}
 use lib.ListN.{length, getD, set}
 use Rattle.sets.specs.Sets.{has, union, single}
@@ -16,14 +16,27 @@ abbrev pub fits : List ℕ → ℕ → Bool
 fits t n = eqb (length t) (C n 3)
 
 -- refusal 7: a table of l bytes for n species, where "table length is not C(n,3)"
-abbrev pub wrongRoom : ℕ → ℕ → Bool
-wrongRoom n l = not (eqb l (C n 3))
+abbrev pub wrongLength : ℕ → ℕ → Bool
+wrongLength n l = not (eqb l (C n 3))
 
--- the highest byte that a table may hold
+-- "1 stands for ab|c, 2 for ac|b, 4 for bc|a", in the byte of the triple a < b < c
+abbrev pub signAB : ℕ
+signAB = 1
+
+abbrev pub signAC : ℕ
+signAC = 2
+
+abbrev pub signBC : ℕ
+signBC = 4
+
+-- a byte that a table may hold: at most all of them "added together"
 abbrev pub top : ℕ
 top = 7
 
--- the first place with a byte over it; the length where there is none
+abbrev pub Small : ℕ → Type 0
+Small v = v ≤ top
+
+-- the first place with a byte that it may not hold; the length where there is none
 unfoldable pub over : List ℕ → ℕ
 over [] = 0
 over (v ∷ t) = cond (ltb top v) 0 (suc (over t))
@@ -44,9 +57,13 @@ bitOf a b c = cond (ltb (max a b) c) 0 (cond (ltb (min a b) c) 1 2)
 unfoldable pub entered : List ℕ → Triplets
 entered t a b c = different a b c && has (getD t (placeOf a b c) 0) (bitOf a b c)
 
+-- the table with the bits of v added to the byte at place i
+abbrev pub added : List ℕ → ℕ → ℕ → List ℕ
+added t i v = set t i (union (getD t i 0) v)
+
 -- the table with ab|c entered as well
 unfoldable pub enter : List ℕ → ℕ → ℕ → ℕ → List ℕ
-enter t a b c = set t (placeOf a b c) (union (getD t (placeOf a b c) 0) (single (bitOf a b c)))
+enter t a b c = added t (placeOf a b c) (single (bitOf a b c))
 
 -- more than one bit: "sources disagree"
 unfoldable pub disagree : ℕ → Bool

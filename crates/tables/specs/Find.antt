@@ -14,5 +14,5 @@ firstFrom m P zero i = i
 firstFrom m P (suc k) i = cond (at m P i) i (firstFrom m P k (suc i))
 
 -- over the C(n,3) triples of n species; C(n,3) where there is none
-unfoldable pub first : ℕ → Triplets → ℕ
-first n P = firstFrom n P (C n 3) 0
+unfoldable pub firstTriple : ℕ → Triplets → ℕ
+firstTriple n P = firstFrom n P (C n 3) 0

@@ -2,7 +2,7 @@
 use mathlib.Core.Path.{_≡_}
 use Prim.Native.Nat.{ℕ, _<_}
 use Rattle.trees.specs.Triplets.{Triplets}
-use Rattle.tables.specs.Find.{first}
+use Rattle.tables.specs.Find.{firstTriple}
 use Rattle.tables.specs.Index.{C, index}
 use Rattle.tables.specs.declared.Triple.{Triple}
 use Rattle.tables.specs.declared.Found.{Found}
@@ -13,8 +13,8 @@ pub record Hit (n : ℕ) (P : Triplets) (x : Triple) : Type 0 where
   pub low-mid : x .low < x .mid
   pub mid-high : x .mid < x .high
   pub high-below : x .high < n
-  pub is : first n P ≡ index (x .low) (x .mid) (x .high)
+  pub is : firstTriple n P ≡ index (x .low) (x .mid) (x .high)
 
 abbrev pub Finds : ℕ → Triplets → Found → Type 0
-Finds n P Nowhere = first n P ≡ C n 3
+Finds n P Nowhere = firstTriple n P ≡ C n 3
 Finds n P (At x) = Hit n P x

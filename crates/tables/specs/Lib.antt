@@ -3,6 +3,7 @@ pub mod Index
 pub mod Bytes
 pub mod Find
 pub mod Finds
-pub mod Checked
 pub mod Filled
+pub mod Adds
+pub mod Tells
 pub mod Named

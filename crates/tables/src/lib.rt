@@ -1,16 +1,23 @@
 // Triples of species, their indices, and the table of entered triplets.
 ghost use mathlib.Core.Path.{_≡_};
 ghost use Prim.Native.Nat.{_<_, _≤_, min, max};
-ghost use lib.ListN.{length, replicate, getD, set};
+ghost use lib.ListN.{length, replicate};
 ghost use mathlib.Core.Bool.{So};
-ghost use Rattle.sets.specs.Sets.{single, union};
+ghost use Rattle.sets.specs.Sets.{single};
 ghost use Rattle.trees.specs.Triplets.{different};
 ghost use Rattle.tables.specs.Index.{C, index, low, mid, high, largest};
-ghost use Rattle.tables.specs.Bytes.{fits, over, placeOf, bitOf, entered, enter, Byte, Entered};
+ghost use Rattle.tables.specs.Bytes.{fits, over, placeOf, bitOf, entered, added, Byte, Entered};
 ghost use Rattle.tables.specs.Named.{named};
 
+// What stands for ab|c, ac|b and bc|a in the byte of the triple a < b < c.
+pub const AB: u8 = 1;
+
+pub const AC: u8 = 2;
+
+pub const BC: u8 = 4;
+
 // The highest byte that a table may hold.
-pub const TOP: u8 = 7;
+const TOP: u8 = 7;
 
 // Three species in increasing order.
 pub struct Triple {
@@ -32,7 +39,7 @@ pub enum Found {
 }
 
 // What is entered of a triple a < b < c: ab|c, ac|b, bc|a.
-pub struct Said {
+pub struct Bits {
     pub ab: bool,
     pub ac: bool,
     pub bc: bool,
@@ -45,7 +52,7 @@ struct Mark {
 }
 
 // C(n,3): the length of the table for n species.
-pub fn room(n: usize) -> usize
+pub fn table_length(n: usize) -> usize
     requires { ⌜ n ≤ 64 ⌝ }
     ensures { λ r. ⌜ r ≡ C n 3 ⌝ }
 {
@@ -80,7 +87,7 @@ fn combinations(n: usize, k: usize) -> usize
     ensures { λ r. ⌜ r ≡ C n k ⌝ }
 {
     if k == 3 {
-        return room(n);
+        return table_length(n);
     }
     pairs(n)
 }
@@ -102,11 +109,11 @@ fn largest(k: usize, i: usize) -> usize
 pub fn triple_at(i: usize) -> Named
     ensures { λ r. ⌜ r ≡ named i ⌝ }
 {
-    if i >= room(64) {
+    if i >= table_length(64) {
         return Named::Beyond;
     }
     let high = largest(3, i);
-    let rest = i - room(high);
+    let rest = i - table_length(high);
     let mid = largest(2, rest);
     Named::Known(Triple {
         low: rest - pairs(mid),
@@ -120,7 +127,7 @@ pub fn fits(t: &[u8], n: usize) -> bool
     requires { ⌜ n ≤ 64 ⌝ }
     ensures { λ r. ⌜ r ≡ fits (now (t .entry)) n ⌝ }
 {
-    t.len() == room(n)
+    t.len() == table_length(n)
 }
 
 // The first place with a byte over TOP; the length where there is none.
@@ -147,12 +154,12 @@ pub fn byte(t: &[u8], a: usize, b: usize, c: usize) -> u8
 }
 
 // What is entered of the triple a < b < c.
-pub fn look(t: &[u8], a: usize, b: usize, c: usize) -> Said
+pub fn bits_of(t: &[u8], a: usize, b: usize, c: usize) -> Bits
     requires { ⌜ (a < b) × (b < c) × (c < 64) ⌝ }
     ensures { λ r. ⌜ (r .ab ≡ entered (now (t .entry)) a b c) × (r .ac ≡ entered (now (t .entry)) a c b) × (r .bc ≡ entered (now (t .entry)) b c a) ⌝ }
 {
     let v = byte(t, a, b, c);
-    Said {
+    Bits {
         ab: v % 2 == 1,
         ac: v / 2 % 2 == 1,
         bc: v / 4 % 2 == 1,
@@ -195,29 +202,12 @@ fn spot(a: usize, b: usize, c: usize) -> Mark
     let t = sorted(a, b, c);
     let i = index(t.low, t.mid, t.high);
     if higher(a, b) < c {
-        return Mark { place: i, bit: 1 };
+        return Mark { place: i, bit: AB };
     }
     if lower(a, b) < c {
-        return Mark { place: i, bit: 2 };
+        return Mark { place: i, bit: AC };
     }
-    Mark { place: i, bit: 4 }
-}
-
-// Is ab|c entered? The three species stand in any order.
-pub fn ask(t: &[u8], a: usize, b: usize, c: usize) -> bool
-    requires { ⌜ (a < 64) × (b < 64) × (c < 64) ⌝ }
-    ensures { λ r. ⌜ r ≡ entered (now (t .entry)) a b c ⌝ }
-{
-    if a == b || a == c || b == c {
-        return false;
-    }
-    let s = spot(a, b, c);
-    let i = s.place;
-    if i < t.len() {
-        t[i] / s.bit % 2 == 1
-    } else {
-        false
-    }
+    Mark { place: i, bit: BC }
 }
 
 // Enters ab|c. The three species stand in any order.
@@ -230,37 +220,13 @@ pub fn put(t: &mut [u8], a: usize, b: usize, c: usize)
     t[i] = t[i] | s.bit;
 }
 
-// Adds a bit to the byte of the triple a < b < c.
-fn add_bit(t: &mut [u8], a: usize, b: usize, c: usize, bit: u8)
+// Adds bits to the byte of the triple a < b < c, which needs no sorting.
+pub fn add(t: &mut [u8], a: usize, b: usize, c: usize, bits: u8)
     requires { ⌜ (a < b) × (b < c) × (c < 64) × (index a b c < length (now t)) ⌝ }
-    ensures { λ _. ⌜ now (t .exit) ≡ set (now (t .entry)) (index a b c) (union (getD (now (t .entry)) (index a b c) 0) bit) ⌝ }
+    ensures { λ _. ⌜ now (t .exit) ≡ added (now (t .entry)) (index a b c) bits ⌝ }
 {
     let i = index(a, b, c);
-    t[i] = t[i] | bit;
-}
-
-// Enters ab|c for a < b < c, which needs no sorting; so do the next two.
-pub fn put_ab(t: &mut [u8], a: usize, b: usize, c: usize)
-    requires { ⌜ (a < b) × (b < c) × (c < 64) × (index a b c < length (now t)) ⌝ }
-    ensures { λ _. ⌜ now (t .exit) ≡ enter (now (t .entry)) a b c ⌝ }
-{
-    add_bit(t, a, b, c, 1);
-}
-
-// Enters ac|b.
-pub fn put_ac(t: &mut [u8], a: usize, b: usize, c: usize)
-    requires { ⌜ (a < b) × (b < c) × (c < 64) × (index a b c < length (now t)) ⌝ }
-    ensures { λ _. ⌜ now (t .exit) ≡ enter (now (t .entry)) a c b ⌝ }
-{
-    add_bit(t, a, b, c, 2);
-}
-
-// Enters bc|a.
-pub fn put_bc(t: &mut [u8], a: usize, b: usize, c: usize)
-    requires { ⌜ (a < b) × (b < c) × (c < 64) × (index a b c < length (now t)) ⌝ }
-    ensures { λ _. ⌜ now (t .exit) ≡ enter (now (t .entry)) b c a ⌝ }
-{
-    add_bit(t, a, b, c, 4);
+    t[i] = t[i] | bits;
 }
 
 // Takes everything out: a table of zeros.

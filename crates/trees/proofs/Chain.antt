@@ -20,8 +20,8 @@ abbrev pub Barred : Triplets → Species → ℕ → ℕ → ℕ → Type 0
 Barred E S a b c = CanBeHeld (both E (only a c b)) S → ⊥
 
 -- whatever is closed under E's links on U, and has a and c, has all of U
-abbrev pub Grown : Triplets → Species → ℕ → ℕ → Type 0
-Grown E U a c = (X : Species) → Closed E U X → So (X a) → So (X c) → Inside U X
+abbrev pub Spans : Triplets → Species → ℕ → ℕ → Type 0
+Spans E U a c = (X : Species) → Closed E U X → So (X a) → So (X c) → Inside U X
 
 module _ (E : Triplets) (N : ℕ) (pr : Proper E) (S : Species) (bd : Below N S) (a c : ℕ) (ha : So (S a)) (hc : So (S c)) where
   pub pair-in : Inside (pair E N S a c) S
@@ -33,7 +33,7 @@ module _ (E : Triplets) (N : ℕ) (pr : Proper E) (S : Species) (bd : Below N S)
   pub pair-c : So (pair E N S a c c)
   pair-c = or-r (part E N S a c) _ (part-refl E N S bd pr c)
 
-  pub grown-pair : (U : Species) → Inside U S → Grown E U a c → Inside U (pair E N S a c)
+  pub grown-pair : (U : Species) → Inside U S → Spans E U a c → Inside U (pair E N S a c)
   grown-pair U sub g = g (pair E N S a c) (λ x y z p hx hy hz e. or-case (part E N S a x) _ p
       (λ q. or-l (part E N S a y) _ (part-closed E N S bd pr a x y z q (sub x hx) (sub y hy) (sub z hz) e))
       (λ q. or-r (part E N S a y) _ (part-closed E N S bd pr c x y z q (sub x hx) (sub y hy) (sub z hz) e))) pair-a pair-c
@@ -78,7 +78,7 @@ module _ (E : Triplets) (N : ℕ) (pr : Proper E) (S : Species) (bd : Below N S)
             two = w .two;
           }) held))
 
-          pub way : Barred E S a b c → (U : Species) × Stopping (both E (only a c b)) S U × So (U a) × So (U b) × So (U c) × Grown E U a c
+          pub way : Barred E S a b c → (U : Species) × Stopping (both E (only a c b)) S U × So (U a) × So (U b) × So (U c) × Spans E U a c
           way h =
               let w = not-held (both E (only a c b)) N one-more S bd a ha h in
               let U = w .0 in
@@ -94,5 +94,5 @@ module _ (E : Triplets) (N : ℕ) (pr : Proper E) (S : Species) (bd : Below N S)
               )
 
           -- any smaller set that what stands in the way cannot leave
-          pub narrow : (S′ : Species) → ((U : Species) → Inside U S → Grown E U a c → Inside U S′) → Barred E S a b c → So (S′ b) × Barred E S′ a b c
+          pub narrow : (S′ : Species) → ((U : Species) → Inside U S → Spans E U a c → Inside U S′) → Barred E S a b c → So (S′ b) × Barred E S′ a b c
           narrow S′ k h = let w = way h in let s = k (w .0) (w .1 .inside) (w .5) in (s b (w .3), no-tree _ S′ (w .0) (stopping-up _ S S′ (w .0) s (w .1)))

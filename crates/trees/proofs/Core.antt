@@ -10,7 +10,7 @@ use Rattle.sets.proofs.Bools.{and-i, and-l, and-r, bool-ext, test}
 use Rattle.sets.proofs.Members.{any-e, inside-e, members-bound, members-lt, members-one}
 use Rattle.sets.specs.Species.{Below, Inside, Species, any, members}
 use Rattle.trees.proofs.Agreement.{Agrees, R-proper, agrees-held, one-wider}
-use Rattle.trees.proofs.Chain.{Barred, Grown, barred-up, grown-pair, narrow, pair-a, pair-bars, pair-c, pair-in}
+use Rattle.trees.proofs.Chain.{Barred, Spans, barred-up, grown-pair, narrow, pair-a, pair-bars, pair-c, pair-in}
 use Rattle.trees.proofs.Criterion.{held-inside}
 use Rattle.trees.proofs.Formed.{Formed}
 use Rattle.trees.proofs.Splits.{holds-e, holds-swap}
@@ -34,7 +34,7 @@ module _ (E : Triplets) (N : ℕ) (pr : Proper E) (a c : ℕ) (ac : a ≢ c) whe
     core-end all b ab bc = ((λ h. (h, pair-bars E N pr S bd a c ha hc b h ac all)), λ h. h .0)
 
     -- any set in between that what stands in the way cannot leave
-    pub core-in : CanBeHeld E S → (S′ X : Species) → Inside S′ S → So (S′ a) → ((U : Species) → Inside U S → Grown E U a c → Inside U S′) → Core E S′ a c X → Core E S a c X
+    pub core-in : CanBeHeld E S → (S′ X : Species) → Inside S′ S → So (S′ a) → ((U : Species) → Inside U S → Spans E U a c → Inside U S′) → Core E S′ a c X → Core E S a c X
     core-in held S′ X sub ha′ gr k b ab bc = (
       (λ h. let r = k b ab bc .0 h in (sub b (r .0), barred-up E N pr S bd a c ha hc b (sub b (r .0)) ac ab bc S′ sub ha′ (r .1))),
       λ h. k b ab bc .1 (narrow E N pr S bd a c ha hc b (h .0) ac ab bc held S′ gr (h .1)),

@@ -6,7 +6,7 @@ use mathlib.Core.Path.{refl, sym}
 use Prim.Native.Nat.{ℕ}
 use Rattle.sets.proofs.Bools.{not-e, not-i, or-case, or-l, or-r, test}
 use Rattle.sets.specs.Species.{Inside, Species, either}
-use Rattle.trees.proofs.Chain.{Grown}
+use Rattle.trees.proofs.Chain.{Spans}
 use Rattle.trees.proofs.Formed.{Formed, FormedF}
 use Rattle.trees.proofs.Kids.{Kid, child-of, child-uniq, every-child, kids}
 use Rattle.trees.proofs.Splits.{cuts-e, holds-e, holds-i, node-splits, root-splits, splits, splits-in, splitsF}
@@ -87,7 +87,7 @@ module _ (E : Triplets) where
   stays f w kt k p a b c h ha hb hc e = every-child (Kid f) k f (kids f w) p .down a b c h (node-splits f a b c hc (kt a b c ha hb hc e))
 
   -- what forces ab|c lies in the two siblings that make it
-  pub between : (T s s′ : Tree) → Formed T → Kept T → Siblings T s s′ → (a c : ℕ) → So (under s a) → So (under s′ c) → (U : Species) → Inside U (under T) → Grown E U a c → Inside U (either (under s) (under s′))
+  pub between : (T s s′ : Tree) → Formed T → Kept T → Siblings T s s′ → (a c : ℕ) → So (under s a) → So (under s′ c) → (U : Species) → Inside U (under T) → Spans E U a c → Inside U (either (under s) (under s′))
   between T s s′ w kt (top {f = f} p q ne) a c ha hc U sub g = g (either (under s) (under s′))
       (λ x y z h hx hy hz e. or-case (under s x) (under s′ x) h
       (λ i. or-l (under s y) _ (splits-in s x y z (stays f (w .1) kt s p x y z i (sub x hx) (sub y hy) (sub z hz) e) .1))

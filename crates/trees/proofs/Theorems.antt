@@ -34,7 +34,7 @@ use Rattle.trees.specs.Triplets.{Proper, Triplets, different, fan, holds
 
 -- ---- joined sets
 
--- "There is one part", "every closed set with one species of U has all of U", and "any two species of U are linked by a walk" say the same.
+-- There is one part; every closed set with one species of U has all of U; any two species of U are linked by a walk: these say the same.
 pub joined-closed : (E : Triplets) → Proper E → (N : ℕ) (U : Species) → Below N U → (u : ℕ) → So (U u) → So (joined E N U) ↔ Joined E U
 joined-closed E pr N U bd u hu = (joined-e E N pr U bd, joined-i E N pr U bd u hu)
 

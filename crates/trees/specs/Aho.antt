@@ -1,6 +1,6 @@
 -- Aho's tree, said over trees and without the build. Document 01, "Triplets, links, building": "To build S: one species is a leaf. With two or more, take
--- the connected parts. [..] each part becomes a child, by lowest species, and each part is then split again by the same rule." Demand 2: "The builder
--- gives Aho's tree". Aho, Sagiv, Szymanski and Ullman (1981).
+-- the connected parts. [..] each part becomes a child, by lowest species, and each part is then split again by the same rule." Demand 2 asks that the
+-- builder give it. Aho, Sagiv, Szymanski and Ullman (1981).
 use mathlib.Core.Bool.{So}
 use mathlib.Core.Logic.{_↔_}
 use Prim.Native.Nat.{ℕ}

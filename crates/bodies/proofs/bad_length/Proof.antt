@@ -2,13 +2,9 @@
 use mathlib.Core.Path.{refl, sym, _∙_}
 use mathlib.Core.Logic.{⊎-elim}
 use mathlib.Core.Bool.{false≢true}
-use borrow.Author.Needs.{needs}
 use borrow.Author.Tests.{eq-eqb, ne-eqb}
 use Rattle.bodies.proofs.bad_length.Statement.{statement}
 use Rattle.bodies.proofs.bad_length.Tie as tie
-
-mul-result : tie.Need-mul-result
-mul-result c = search needs
 
 returns : tie.Need-returns
 returns c = ⊎-elim (λ w. rw (eq-eqb _ _ (w .0 .taken)) (c .if2 .taken)) (λ w. rw (ne-eqb _ _ (w .0 .left), ← w .1, c .if2 .taken) refl) (c .before .if1 .came)
@@ -17,4 +13,4 @@ returns-2 : tie.Need-returns-2
 returns-2 c = ⊎-elim (λ w. absurd (false≢true (sym (c .if2 .left) ∙ w .1 ∙ eq-eqb _ _ (w .0 .taken)))) (λ w. rw (ne-eqb _ _ (w .0 .left), ← w .1, c .if2 .left) refl) (c .before .if1 .came)
 
 pub bad-length-spec : {M : Type 1} → statement M
-bad-length-spec = tie.close (tie.spec mul-result returns returns-2)
+bad-length-spec = tie.close (tie.spec returns returns-2)

@@ -1,11 +1,12 @@
 -- `bodies::copy` meets its contract. Assumes nothing.
 use mathlib.Core.List.{List}
 use mathlib.Core.Path.{_≡_, refl, ap, _∙_}
-use Prim.Native.Nat.{ℕ, _-_, _*_, _≤_}
+use Prim.Native.Nat.{ℕ, _-_, _≤_}
 use native.Mathlib.Omega.{arith}
 use borrow.Author.Needs.{needs}
 use lib.ListN.{length, length-set, getD, set}
 use lib.Seq.{paste}
+use Rattle.bodies.specs.Nodes.{bodyLength}
 use Rattle.bodies.proofs.Written.{copied, copy-more}
 use Rattle.bodies.proofs.copy.Statement.{statement}
 use Rattle.bodies.proofs.copy.Tie as tie
@@ -47,8 +48,8 @@ returns : tie.Need-returns Inv-loop μ-loop
 returns c =
     let l = c .before .loop in
     let a = c .before .before .args in
-    let e : l .i ≡ 2 * a .k = omega arith in
-    l .inv .2 ∙ ap (paste (a .room .now) 0 (a .body .now)) e ∙ copied (a .room .now) (a .body .now) (2 * a .k) (c .before .before .pre .0) (c .before .before .pre .1)
+    let e : l .i ≡ bodyLength (a .k) = omega arith in
+    l .inv .2 ∙ ap (paste (a .room .now) 0 (a .body .now)) e ∙ copied (a .room .now) (a .body .now) (bodyLength (a .k)) (c .before .before .pre .0) (c .before .before .pre .1)
 
 pub copy-spec : {M : Type 1} → statement M
 copy-spec =

@@ -1,26 +1,25 @@
 -- `bodies::first_fault` meets its contract: the first fault from node 0 on is the first one from the node reached. Assumes nothing.
 use mathlib.Core.Path.{_≡_, refl, sym, _∙_}
-use Prim.Native.Nat.{_-_, _/_, _≤_}
+use Prim.Native.Nat.{_-_, _≤_}
 use native.Mathlib.Omega.{arith}
 use borrow.Author.Needs.{needs}
-use lib.ListN.{length}
 use Rattle.bodies.specs.Nodes.{nodes}
-use Rattle.bodies.specs.Faults.{first, parentFault, nodeFault, fault}
+use Rattle.bodies.specs.Faults.{firstBreak, parentFault, nodeFault, fault}
 use Rattle.bodies.proofs.Rules.{first-stop, first-on, first-end}
 use Rattle.bodies.proofs.first_fault.Statement.{statement}
 use Rattle.bodies.proofs.first_fault.Tie as tie
 
 abbrev Inv-loop : tie.InvT-loop
-Inv-loop k n body count i₀ i = (i ≤ length body / 2) × (first (parentFault k (nodes body)) (length body / 2) 0 ≡ first (parentFault k (nodes body)) (length body / 2 - i) i)
+Inv-loop k n body count i₀ i = (i ≤ nodes body .count) × (firstBreak (parentFault k (nodes body)) (nodes body .count) 0 ≡ firstBreak (parentFault k (nodes body)) (nodes body .count - i) i)
 
 abbrev μ-loop : tie.MeasureT-loop
-μ-loop k n body count i₀ i = length body / 2 - i
+μ-loop k n body count i₀ i = nodes body .count - i
 
 abbrev Inv-loop2 : tie.InvT-loop2
-Inv-loop2 k n body count i j₀ j = (j ≤ length body / 2) × (fault k (nodes body) n ≡ first (nodeFault k (nodes body) n) (length body / 2 - j) j)
+Inv-loop2 k n body count i j₀ j = (j ≤ nodes body .count) × (fault k (nodes body) n ≡ firstBreak (nodeFault k (nodes body) n) (nodes body .count - j) j)
 
 abbrev μ-loop2 : tie.MeasureT-loop2
-μ-loop2 k n body count i j₀ j = length body / 2 - j
+μ-loop2 k n body count i j₀ j = nodes body .count - j
 
 node-count-requires : tie.Need-node-count-requires Inv-loop μ-loop Inv-loop2 μ-loop2
 node-count-requires c κs = search needs
@@ -28,7 +27,7 @@ node-count-requires c κs = search needs
 loop-holds : tie.Need-loop-holds Inv-loop μ-loop Inv-loop2 μ-loop2
 loop-holds c =
     let b = c .before .before .args .body .now in
-    (search needs, let z : length b / 2 - 0 ≡ length b / 2 = omega arith in rw z refl)
+    (search needs, let z : nodes b .count - 0 ≡ nodes b .count = omega arith in rw z refl)
 
 parent-fault-requires : tie.Need-parent-fault-requires Inv-loop μ-loop Inv-loop2 μ-loop2
 parent-fault-requires c κs = search needs
@@ -64,8 +63,8 @@ unfolding fault
 loop2-holds c =
     let a = c .before .before .before .before .args in
     let b = a .body .now in
-    let z : length b / 2 - 0 ≡ length b / 2 = omega arith in
-    let e = c .before .loop .inv .1 ∙ first-end (parentFault (a .k) (nodes b)) (length b / 2) (c .before .loop .i) (omega arith) in
+    let z : nodes b .count - 0 ≡ nodes b .count = omega arith in
+    let e = c .before .loop .inv .1 ∙ first-end (parentFault (a .k) (nodes b)) (nodes b .count) (c .before .loop .i) (omega arith) in
     (search needs, rw (z, e) refl)
 
 node-fault-requires : tie.Need-node-fault-requires Inv-loop μ-loop Inv-loop2 μ-loop2

@@ -1,20 +1,20 @@
 -- `bodies::kids` meets its contract: the children found and those still to come are all of them. Assumes nothing.
 use mathlib.Core.Path.{_≡_, sym, _∙_}
 use mathlib.Core.Logic.{⊎-elim}
-use Prim.Native.Nat.{_+_, _-_, _/_, _<_}
+use Prim.Native.Nat.{_+_, _-_, _<_}
 use native.Mathlib.Omega.{arith}
 use borrow.Author.Needs.{needs}
 use lib.ListN.{length}
-use Rattle.bodies.specs.Nodes.{nodes, among, children}
+use Rattle.bodies.specs.Nodes.{nodes, childrenAmong, children}
 use Rattle.bodies.proofs.Rules.{among-hit, among-miss, among-end}
 use Rattle.bodies.proofs.kids.Statement.{statement}
 use Rattle.bodies.proofs.kids.Tie as tie
 
 abbrev Inv-loop : tie.InvT-loop
-Inv-loop body i count k₀ j₀ k j = (k < j) × (k + length (among (nodes body) i (length body / 2 - j) j) ≡ length (children (nodes body) i))
+Inv-loop body i count k₀ j₀ k j = (k < j) × (k + length (childrenAmong (nodes body) i (nodes body .count - j) j) ≡ length (children (nodes body) i))
 
 abbrev μ-loop : tie.MeasureT-loop
-μ-loop body i count k₀ j₀ k j = length body / 2 - j
+μ-loop body i count k₀ j₀ k j = nodes body .count - j
 
 node-count-requires : tie.Need-node-count-requires Inv-loop μ-loop
 node-count-requires c κs = search needs
@@ -51,7 +51,7 @@ loop-again c =
 returns : tie.Need-returns Inv-loop μ-loop
 returns c =
     let a = c .before .before .before .before .args in
-    omega (arith, among-end (nodes (a .body .now)) (a .i) (length (a .body .now) / 2) (c .before .loop .j) (omega arith))
+    omega (arith, among-end (nodes (a .body .now)) (a .i) (nodes (a .body .now) .count) (c .before .loop .j) (omega arith))
 
 pub kids-spec : {M : Type 1} → statement M
 kids-spec =

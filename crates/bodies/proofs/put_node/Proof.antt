@@ -5,6 +5,7 @@ use native.Mathlib.Numerals.{add-one}
 use native.Mathlib.Omega.{arith}
 use borrow.Author.Needs.{needs}
 use lib.ListN.{set, length-set}
+use Rattle.bodies.specs.Nodes.{width}
 use Rattle.bodies.proofs.put_node.Statement.{statement}
 use Rattle.bodies.proofs.put_node.Tie as tie
 
@@ -21,13 +22,13 @@ add-room : tie.Need-add-room
 add-room c = search needs
 
 slice-write-room-2 : tie.Need-slice-write-room-2
-slice-write-room-2 c = omega (arith, length-set (c .args .room .now) (2 * c .args .at) (c .args .parent), c .pre)
+slice-write-room-2 c = omega (arith, length-set (c .args .room .now) (width * c .args .at) (c .args .parent), c .pre)
 
 same-length : tie.Need-same-length
 same-length c = search needs
 
 returns : tie.Need-returns
-returns c = ap (λ (i : ℕ). set (set (c .args .room .now) (2 * c .args .at) (c .args .parent)) i (c .args .species)) (add-one (2 * c .args .at))
+returns c = ap (λ (i : ℕ). set (set (c .args .room .now) (width * c .args .at) (c .args .parent)) i (c .args .species)) (add-one (width * c .args .at))
 
 pub put-node-spec : {M : Type 1} → statement M
 put-node-spec = tie.close (tie.spec mul-room slice-write-room mul-room-2 add-room slice-write-room-2 same-length returns)

@@ -7,9 +7,9 @@ use lib.ListN.{drop, take}
 use Rattle.bodies.specs.Faults.{fault}
 use Rattle.bodies.specs.Nodes.{badLength, nodes}
 use Rattle.bodies.specs.declared.Verdict.{Verdict}
-use Rattle.collections.proofs.Steps.{next-cut, next-judged, next-short, next-wrong}
+use Rattle.collections.proofs.Steps.{next-cut, next-ruled, next-short, next-wrong, onward}
 use Rattle.collections.specs.Layout.{lengthAt}
-use Rattle.collections.specs.Reads.{nextOf, onward}
+use Rattle.collections.specs.Reads.{nextOf}
 use Rattle.collections.proofs.one_tree.Statement.{statement}
 use Rattle.collections.proofs.one_tree.Tie as tie
 
@@ -70,7 +70,7 @@ judge c =
     let e : c .first-fault .result ≡ fault (s .args .k) (nodes (take (at + 2 + l .result - (at + 2)) (drop (at + 2) b))) (s .args .n) = c .first-fault .ensures in
     let m : at + 2 + l .result - (at + 2) ≡ lengthAt b at = omega (arith, l .ensures .0) in
     ap (λ (x : ℕ). onward (c .first-fault .result) (at + 2 + x)) (l .ensures .0)
-    ∙ next-judged b (s .args .k) at (s .pre .0) (omega arith) f (c .first-fault .result) (omega (arith, l .ensures .0))
+    ∙ next-ruled b (s .args .k) at (s .pre .0) (omega arith) f (c .first-fault .result) (omega (arith, l .ensures .0))
     (e ∙ ap₂ (λ (x n : ℕ). fault (s .args .k) (nodes (take x (drop (at + 2) b))) n) m (s .pre .2))
 
 enum-told : tie.Need-enum-told

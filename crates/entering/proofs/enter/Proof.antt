@@ -1,17 +1,18 @@
--- `entering::enter` meets its contract: what `settle` and `fill` say, put together. Assumes nothing.
+-- `entering::enter` meets its contract: what `decide` and `fill` say, put together. Assumes nothing.
 use mathlib.Core.List.{List}
 use mathlib.Core.Path.{_∙_, _≡_, ap, refl, sym}
 use Prim.Native.Nat.{ℕ}
 use borrow.Author.Needs.{needs}
 use lib.ListN.{length}
 use Rattle.entering.specs.declared.Answer.{Answer}
+use Rattle.entering.specs.Enters.{Enters}
 use Rattle.entering.specs.Passes.{Ready, filled}
-use Rattle.entering.proofs.Answers.{Says, passes-ready, passes-say}
+use Rattle.entering.proofs.Answers.{passes-ready, passes-say}
 use Rattle.entering.proofs.enter.Statement.{statement}
 use Rattle.entering.proofs.enter.Tie as tie
 
 -- what is known once the answer is settled
-module _ (c : tie.After-settle) where
+module _ (c : tie.After-decide) where
   abbrev rs : List (List ℕ)
   rs = c .before .before .before .before .args .records .now
 
@@ -22,24 +23,24 @@ module _ (c : tie.After-settle) where
   n = c .before .before .before .before .args .n
 
   abbrev r : Answer
-  r = c .settle .result
+  r = c .decide .result
 
   abbrev t₁ : List ℕ
-  t₁ = c .settle .last .1 .1 .1 .0
+  t₁ = c .decide .last .1 .1 .1 .0
 
   ready : Ready r rs t₁
-  ready = passes-ready n rs t t₁ (length rs) (c .before .before .first-bad .result) r refl (c .before .before .first-bad .ensures) (c .settle .ensures .0) (c .settle .ensures .1)
+  ready = passes-ready n rs t t₁ (length rs) (c .before .before .first-bad .result) r refl (c .before .before .first-bad .ensures) (c .decide .ensures .0) (c .decide .ensures .1)
 
-  says : (q : Answer) (t₂ : List ℕ) → r ≡ q → t₂ ≡ filled q rs t₁ → Says n rs t q t₂
+  says : (q : Answer) (t₂ : List ℕ) → r ≡ q → t₂ ≡ filled q rs t₁ → Enters n rs t q t₂
   says q t₂ e f =
-      passes-say n rs t t₁ (length rs) (c .before .before .first-bad .result) r refl (c .before .before .first-bad .ensures) (c .settle .ensures .0) (c .settle .ensures .1) q t₂
+      passes-say n rs t t₁ (length rs) (c .before .before .first-bad .result) r refl (c .before .before .first-bad .ensures) (c .decide .ensures .0) (c .decide .ensures .1) q t₂
       (sym e, f ∙ sym (ap (λ (a : Answer). filled a rs t₁) e))
 
 first-bad-requires : tie.Need-first-bad-requires
 first-bad-requires c κs = search needs
 
-settle-requires : tie.Need-settle-requires
-settle-requires c κs = search needs
+decide-requires : tie.Need-decide-requires
+decide-requires c κs = search needs
 
 enum-known-r : tie.Need-enum-known-r
 enum-known-r c = search needs
@@ -48,12 +49,6 @@ fill-requires : tie.Need-fill-requires
 fill-requires c κs =
     let d = c .before .before .r .given in
     ready (c .before .before .before .before .before .before) .is (d .0 .0) (d .1)
-
-enum-told : tie.Need-enum-told
-enum-told c = search needs
-
-enum-told-2 : tie.Need-enum-told-2
-enum-told-2 c = search needs
 
 enum-known-r-2 : tie.Need-enum-known-r-2
 enum-known-r-2 c = search needs
@@ -70,38 +65,18 @@ same-length-2 c = search needs
 
 returns-2 : tie.Need-returns-2
 unfolding filled
-returns-2 c = says (c .before .before .before .before) _ _ (c .enum-told .given .1) refl
-
-same-length-3 : tie.Need-same-length-3
-same-length-3 c = search needs
-
-returns-3 : tie.Need-returns-3
-unfolding filled
-returns-3 c = says (c .before .before .before .before) _ _ (c .enum-told2 .given .1) refl
-
-same-length-4 : tie.Need-same-length-4
-same-length-4 c = search needs
-
-returns-4 : tie.Need-returns-4
-unfolding filled
-returns-4 c = says (c .before .before .before .before .before) _ _ (c .before .r2 .given .1) refl
+returns-2 c = says (c .before .before .before .before .before) _ _ (c .before .r2 .given .1) refl
 
 pub enter-spec : {M : Type 1} → statement M
 enter-spec =
     tie.close
     (tie.spec
     first-bad-requires
-    settle-requires
+    decide-requires
     enum-known-r
     fill-requires
-    enum-told
-    enum-told-2
     enum-known-r-2
     same-length
     returns
     same-length-2
-    returns-2
-    same-length-3
-    returns-3
-    same-length-4
-    returns-4)
+    returns-2)

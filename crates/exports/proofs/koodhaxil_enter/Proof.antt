@@ -1,6 +1,6 @@
--- What is said of the answer of entering is handed back. Assumes nothing.
+-- The reply to an answer of entering is handed back. Assumes nothing.
 use borrow.Author.Needs.{needs}
-use Rattle.entering.specs.Order.{enterTold}
+use Rattle.entering.specs.Enters.{enterTold}
 use Rattle.exports.proofs.Laying.{handed}
 use Rattle.exports.proofs.koodhaxil_enter.Statement.{statement}
 use Rattle.exports.proofs.koodhaxil_enter.Tie as tie

@@ -1,6 +1,6 @@
--- What is said of the answer of reading is handed back. Assumes nothing.
+-- The reply to an answer of reading is handed back. Assumes nothing.
 use borrow.Author.Needs.{needs}
-use Rattle.collections.specs.Order.{answerTold}
+use Rattle.collections.specs.Reads.{readTold}
 use Rattle.exports.proofs.Laying.{handed}
 use Rattle.exports.proofs.koodhaxil_read.Statement.{statement}
 use Rattle.exports.proofs.koodhaxil_read.Tie as tie
@@ -21,7 +21,7 @@ returns : tie.Need-returns
 returns c =
     let h = c .before .before in
     let s = h .before .before in
-    handed answerTold _ (s .read2 .ensures) (s .before .read .ensures) (h .lay .ensures)
+    handed readTold _ (s .read2 .ensures) (s .before .read .ensures) (h .lay .ensures)
 
 pub koodhaxil-read-spec : {M : Type 1} → statement M
 koodhaxil-read-spec =

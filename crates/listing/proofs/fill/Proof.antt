@@ -1,23 +1,26 @@
 -- The loop's invariant: the table says what the first k trees say. Assumes nothing.
 use mathlib.Core.List.{List}
-use mathlib.Core.Path.{_∙_, _≡_, ap, refl, subst, sym}
+use mathlib.Core.Path.{_∙_, _≡_, ap, refl, subst}
 use Prim.Native.Nat.{_-_, _<_, _≤_, ℕ}
 use native.Mathlib.Numerals.{add-one}
 use native.Mathlib.Omega.{arith}
 use borrow.Author.Needs.{needs}
-use lib.ListN.{drop, length, length-replicate, take}
+use lib.ListN.{drop, length, length-replicate, replicate, take}
+use Rattle.bodies.specs.Nodes.{mostNodes}
+use Rattle.groups.specs.Groups.{cells}
+use Rattle.collections.specs.Collection.{Collection}
 use Rattle.collections.specs.Layout.{bodyAt, species, trees}
-use Rattle.tables.proofs.Fillings.{table-unique}
-use Rattle.tables.proofs.Limits.{zeros-small}
-use Rattle.tables.specs.Bytes.{entered, over}
+use Rattle.tables.proofs.Adding.{adds-table}
+use Rattle.tables.specs.Adds.{Adds}
+use Rattle.tables.specs.Filled.{byteFor}
 use Rattle.tables.specs.Index.{C}
-use Rattle.listing.proofs.Collected.{inside, part-good, part-in, part-is, said-next, said-none}
-use Rattle.listing.specs.Lists.{Readable, said}
+use Rattle.listing.proofs.Collected.{inside, part-good, part-in, part-is, held-next, held-none}
+use Rattle.listing.specs.Lists.{heldUpTo}
 use Rattle.listing.proofs.fill.Statement.{statement}
 use Rattle.listing.proofs.fill.Tie as tie
 
 abbrev Inv-loop : tie.InvT-loop
-Inv-loop b n m t₀ groups₀ meets₀ k₀ t groups meets k = (k ≤ m) × (length t ≡ C n 3) × (over t ≡ length t) × ((x y z : ℕ) → entered t x y z ≡ said b k x y z) × (length groups ≡ 127) × (length meets ≡ 4096)
+Inv-loop b n m t₀ groups₀ meets₀ k₀ t groups meets k = (k ≤ m) × (length t ≡ C n 3) × Adds (byteFor (heldUpTo b k)) 0 (C n 3) t₀ t × (length groups ≡ mostNodes) × (length meets ≡ cells)
 
 abbrev μ-loop : tie.MeasureT-loop
 μ-loop b n m t₀ groups₀ meets₀ k₀ t groups meets k = m - k
@@ -32,8 +35,7 @@ loop-holds c =
     let l = length (s .args .t .now) in (
       omega arith,
       ap length e ∙ length-replicate l 0 ∙ s .pre .3,
-      subst (λ (u : List ℕ). over u ≡ length u) (sym e) (zeros-small l),
-      λ x y z. ap (λ (u : List ℕ). entered u x y z) e ∙ said-none (s .args .b .now) (s .pre .0) l x y z,
+      held-none (s .args .b .now) _ (C (s .args .n) 3),
       refl,
       refl,
     )
@@ -51,7 +53,7 @@ module _ (c : tie.After-body-span Inv-loop μ-loop) where
   abbrev b : List ℕ
   b = c .before .before .before .before .before .before .before .before .before .args .b .now
 
-  abbrev r : Readable b
+  abbrev r : Collection b
   r = c .before .before .before .before .before .before .before .before .before .pre .0
 
   one-of : k < trees b
@@ -77,7 +79,7 @@ tree-requires c κs =
     let p = c .before .before .before .before in
     let l = p .before .before .loop in
     let s = p .before .before .before .before .before .before .before .before .before in
-    (part-good (b p) (r p) (k p) (one-of p) (s .args .n) _ (s .pre .1) (is-body p), (l .inv .4, l .inv .5, l .inv .1))
+    (part-good (b p) (r p) (k p) (one-of p) (s .args .n) _ (s .pre .1) (is-body p), (l .inv .3, l .inv .4, l .inv .1))
 
 add-k : tie.Need-add-k Inv-loop μ-loop
 add-k c = search needs
@@ -90,14 +92,12 @@ loop-again c =
     let t = c .before .before in
     let p = t .before .before .before .before .before in
     let l = p .before .before .loop in
-    let s = p .before .before .before .before .before .before .before .before .before in
-    let a = t .tree .ensures .3 in (
+    let s = p .before .before .before .before .before .before .before .before .before in (
       omega (arith, p .before .loop-test .taken),
-      t .tree .ensures .2,
-      a .small (l .inv .2),
-      rw (add-one (l .k)) (said-next (b p) (r p) (k p) (one-of p) (s .args .n) _ (l .t) _ (s .pre .1) (is-body p) (l .inv .3) a),
-      t .tree .ensures .0,
-      t .tree .ensures .1,
+      t .tree .ensures .1 .0,
+      rw (add-one (l .k)) (held-next (b p) (r p) (k p) (one-of p) (s .args .n) _ _ (l .t) _ (is-body p) (l .inv .2) (t .tree .ensures .1 .1)),
+      t .tree .ensures .0 .0,
+      t .tree .ensures .0 .1,
     )
 
 same-length : tie.Need-same-length Inv-loop μ-loop
@@ -109,7 +109,12 @@ returns c =
     let s = c .before .before .before .before .before .before .before .before in
     let b = s .args .b .now in
     let e : l .k ≡ trees b = omega (arith, l .inv .0, c .loop-test .left, s .pre .2) in
-    table-unique (species b) (said b (trees b)) (l .t) (l .inv .1 ∙ ap (λ (x : ℕ). C x 3) (s .pre .1)) (l .inv .2) (λ x y z _ _ _. l .inv .3 x y z ∙ ap (λ (k : ℕ). said b k x y z) e)
+    let z = c .before .before .before .before .clear .ensures in
+    let d : C (s .args .n) 3 ≡ C (species b) 3 = ap (λ (x : ℕ). C x 3) (s .pre .1) in
+    adds-table (species b) (heldUpTo b (trees b)) (l .t)
+    (subst (λ (x : ℕ). Adds (byteFor (heldUpTo b (trees b))) 0 x (replicate x 0) (l .t)) d
+    (subst (λ (k : ℕ). Adds (byteFor (heldUpTo b k)) 0 (C (s .args .n) 3) (replicate (C (s .args .n) 3) 0) (l .t)) e
+    (subst (λ (t : List ℕ). Adds (byteFor (heldUpTo b (l .k))) 0 (C (s .args .n) 3) t (l .t)) (z ∙ ap (λ (x : ℕ). replicate x 0) (s .pre .3)) (l .inv .2))))
 
 pub fill-spec : {M : Type 1} → statement M
 fill-spec =

@@ -1,14 +1,53 @@
--- Each arm by the law of its answer. Assumes nothing.
-use mathlib.Core.Path.{_∙_, refl, sym}
+-- `listing::list` meets its contract: what reading refuses, a table of the wrong length, and what is listed. Assumes nothing.
+use mathlib.Core.Bool.{Bool, false, not, true}
+use mathlib.Core.List.{List, [], _∷_}
+use mathlib.Core.Path.{_∙_, _≡_, ap, sym}
+use Prim.Native.Nat.{ℕ}
 use native.Mathlib.Omega.{arith}
 use borrow.Author.Needs.{needs}
-use borrow.Author.Tests.{eqb-true, not-false, not-true}
-use Rattle.collections.specs.declared.Answer.the-variants.{BadCounts, BadLength, BadTree, BadVersion, EndsEarly, LeftOver}
-use Rattle.listing.proofs.Answered.{is-bad-table, is-listed, is-unread}
-use Rattle.listing.proofs.Collected.{counts-species, counts-trees, most-species}
-use Rattle.listing.specs.Lists.{Readable, listed}
+use borrow.Author.Tests.{eqb-true, not-false}
+use lib.Dec.{eqb}
+use lib.ListN.{length}
+use Rattle.tables.specs.Bytes.{wrongLength}
+use Rattle.tables.specs.Index.{C}
+use Rattle.answers.proofs.Answered.{first-on, first-stop, is-done, is-refused, then-nothing}
+use Rattle.answers.specs.Looks.{firstRefusal, lookTable, refuseIf}
+use Rattle.answers.specs.declared.Look.the-variants.{Pass}
+use Rattle.answers.specs.declared.Refusal.the-variants.{BadTable}
+use Rattle.collections.proofs.Whole.{read-done, read-pass, read-refused}
+use Rattle.collections.specs.Collection.{Collection}
+use Rattle.collections.specs.Layout.{species}
+use Rattle.collections.specs.Reads.{countsOf, readLooks}
+use Rattle.collections.specs.declared.Counts.{Counts}
+use Rattle.listing.specs.Lists.{listLooks}
 use Rattle.listing.proofs.list.Statement.{statement}
 use Rattle.listing.proofs.list.Tie as tie
+
+-- what reading came to
+module _ (c : tie.After-read) where
+  abbrev b : List ℕ
+  b = c .before .before .before .args .b .now
+
+  abbrev t : List ℕ
+  t = c .before .before .before .args .t .now
+
+-- where it refused nothing
+module _ (c : tie.After-read2) where
+  read-as : (c .read2 .given .0 .0 ≡ countsOf (b (c .before .before))) × Collection (b (c .before .before))
+  read-as = read-done (b (c .before .before)) (c .read2 .given .0 .0) (sym (c .before .before .read .ensures) ∙ c .read2 .given .1)
+
+  count-as : c .read2 .given .0 .0 .n ≡ species (b (c .before .before))
+  count-as = ap (λ (k : Counts). k .n) (read-as .0)
+
+  passed : firstRefusal (readLooks (b (c .before .before))) ≡ Pass
+  passed = read-pass (b (c .before .before)) .1 (read-as .1)
+
+  -- 7 behind it
+  seven : (f : Bool) → not (eqb (length (t (c .before .before))) (C (c .read2 .given .0 .0 .n) 3)) ≡ f → firstRefusal (listLooks (b (c .before .before)) (length (t (c .before .before)))) ≡ refuseIf f BadTable
+  seven f e =
+      let x = c .before .before in
+      first-on (readLooks (b x)) (lookTable (species (b x)) (length (t x)) ∷ []) passed ∙ then-nothing _
+      ∙ ap (λ (g : Bool). refuseIf g BadTable) (ap (λ (n : ℕ). wrongLength n (length (t x))) (sym count-as) ∙ e)
 
 read-requires : tie.Need-read-requires
 read-requires c κs = search needs
@@ -17,12 +56,7 @@ enum-known-read : tie.Need-enum-known-read
 enum-known-read c = search needs
 
 fits-requires : tie.Need-fits-requires
-fits-requires c κs =
-    let x = c .before .before in
-    let r = x .before .before in
-    let b = r .before .before .before .args .b .now in
-    let w : Readable b = record { counts = x .read2 .given .0 .0; is = sym (r .read .ensures) ∙ x .read2 .given .1 } in
-    omega (arith, counts-species b w, most-species b w)
+fits-requires c κs = let x = c .before .before in omega (arith, count-as x, read-as x .1 .most)
 
 same-length : tie.Need-same-length
 same-length c = search needs
@@ -30,37 +64,16 @@ same-length c = search needs
 returns : tie.Need-returns
 returns c =
     let f = c .before in
-    let x = f .before .before .before in
-    let r = x .before .before in
-    let s = r .before .before .before in
-    is-bad-table (s .args .b .now) (s .args .t .now) (x .read2 .given .0 .0) (sym (r .read .ensures) ∙ x .read2 .given .1) (sym (f .fits2 .ensures) ∙ not-true (f .fits2 .result) (c .if1 .taken))
+    is-refused BadTable (seven (f .before .before .before) true (sym (ap not (f .fits2 .ensures)) ∙ c .if1 .taken))
 
 fill-requires : tie.Need-fill-requires
 fill-requires c κs =
     let f = c .before .before in
     let x = f .before .before .before in
-    let r = x .before .before in
-    let b = r .before .before .before .args .b .now in
-    let w : Readable b = record { counts = x .read2 .given .0 .0; is = sym (r .read .ensures) ∙ x .read2 .given .1 } in
-    (w, counts-species b w, counts-trees b w, eqb-true _ _ (sym (f .fits2 .ensures) ∙ not-false (f .fits2 .result) (c .before .if1 .left)))
-
-enum-told : tie.Need-enum-told
-enum-told c = search needs
-
-enum-told-2 : tie.Need-enum-told-2
-enum-told-2 c = search needs
+    (read-as x .1, count-as x, ap (λ (k : Counts). k .trees) (read-as x .0), eqb-true _ _ (sym (f .fits2 .ensures) ∙ not-false (f .fits2 .result) (c .before .if1 .left)))
 
 enum-known-read-2 : tie.Need-enum-known-read-2
 enum-known-read-2 c = search needs
-
-enum-known-read-3 : tie.Need-enum-known-read-3
-enum-known-read-3 c = search needs
-
-enum-known-read-4 : tie.Need-enum-known-read-4
-enum-known-read-4 c = search needs
-
-enum-known-read-5 : tie.Need-enum-known-read-5
-enum-known-read-5 c = search needs
 
 same-length-2 : tie.Need-same-length-2
 same-length-2 c = search needs
@@ -71,55 +84,13 @@ returns-2 c =
     let e = p .before .before in
     let f = e .before in
     let x = f .before .before .before in
-    let r = x .before .before in
-    let s = r .before .before .before in
-    is-listed (s .args .b .now) (s .args .t .now) (x .read2 .given .0 .0) (sym (r .read .ensures) ∙ x .read2 .given .1) (sym (f .fits2 .ensures) ∙ not-false (f .fits2 .result) (e .if1 .left)) _ (p .fill .ensures)
+    is-done (seven x false (sym (ap not (f .fits2 .ensures)) ∙ e .if1 .left)) (read-as x .0) (p .fill .ensures)
 
 returns-3 : tie.Need-returns-3
-unfolding listed
 returns-3 c =
-    let r = c .before .before in
-    let s = r .before .before .before in
-    is-unread (s .args .b .now) (s .args .t .now) BadVersion (sym (r .read .ensures) ∙ c .enum-told .given .1) refl
-
-returns-4 : tie.Need-returns-4
-unfolding listed
-returns-4 c =
-    let r = c .before .before in
-    let s = r .before .before .before in
-    is-unread (s .args .b .now) (s .args .t .now) BadCounts (sym (r .read .ensures) ∙ c .enum-told2 .given .1) refl
-
-returns-5 : tie.Need-returns-5
-unfolding listed
-returns-5 c =
-    let x = c .before in
-    let r = x .before .before in
-    let s = r .before .before .before in
-    is-unread (s .args .b .now) (s .args .t .now) (EndsEarly (x .read3 .given .0 .0)) (sym (r .read .ensures) ∙ x .read3 .given .1) refl
-
-returns-6 : tie.Need-returns-6
-unfolding listed
-returns-6 c =
-    let x = c .before in
-    let r = x .before .before in
-    let s = r .before .before .before in
-    is-unread (s .args .b .now) (s .args .t .now) (LeftOver (x .read4 .given .0 .0)) (sym (r .read .ensures) ∙ x .read4 .given .1) refl
-
-returns-7 : tie.Need-returns-7
-unfolding listed
-returns-7 c =
-    let x = c .before in
-    let r = x .before .before in
-    let s = r .before .before .before in
-    is-unread (s .args .b .now) (s .args .t .now) (BadLength (x .read5 .given .0 .0)) (sym (r .read .ensures) ∙ x .read5 .given .1) refl
-
-returns-8 : tie.Need-returns-8
-unfolding listed
-returns-8 c =
-    let x = c .before in
-    let r = x .before .before in
-    let s = r .before .before .before in
-    is-unread (s .args .b .now) (s .args .t .now) (BadTree (x .read6 .given .0 .0)) (sym (r .read .ensures) ∙ x .read6 .given .1) refl
+    let k = c .before in
+    let x = k .before .before in
+    is-refused _ (first-stop (readLooks (b x)) (lookTable (species (b x)) (length (t x)) ∷ []) _ (read-refused (b x) _ (sym (x .read .ensures) ∙ k .read3 .given .1)))
 
 pub list-spec : {M : Type 1} → statement M
 list-spec =
@@ -131,17 +102,7 @@ list-spec =
     same-length
     returns
     fill-requires
-    enum-told
-    enum-told-2
     enum-known-read-2
-    enum-known-read-3
-    enum-known-read-4
-    enum-known-read-5
     same-length-2
     returns-2
-    returns-3
-    returns-4
-    returns-5
-    returns-6
-    returns-7
-    returns-8)
+    returns-3)

@@ -7,14 +7,14 @@ use Rattle.tables.specs.Index.{C}
 use Rattle.tables.proofs.combinations.Statement.{statement}
 use Rattle.tables.proofs.combinations.Tie as tie
 
-room-requires : tie.Need-room-requires
-room-requires c κs = search needs
+table-length-requires : tie.Need-table-length-requires
+table-length-requires c κs = search needs
 
 returns : tie.Need-returns
 returns c =
     let a = c .before .before .args in
     let e : a .k ≡ 3 = omega arith in
-    c .room .ensures ∙ ap (λ (k : ℕ). C (a .n) k) (sym e)
+    c .table-length .ensures ∙ ap (λ (k : ℕ). C (a .n) k) (sym e)
 
 pairs-requires : tie.Need-pairs-requires
 pairs-requires c κs = search needs
@@ -26,4 +26,4 @@ returns-2 c =
     c .pairs .ensures ∙ ap (λ (k : ℕ). C (a .n) k) (sym e)
 
 pub combinations-spec : {M : Type 1} → statement M
-combinations-spec = tie.close (tie.spec room-requires returns pairs-requires returns-2)
+combinations-spec = tie.close (tie.spec table-length-requires returns pairs-requires returns-2)

@@ -9,33 +9,33 @@ use Rattle.tables.proofs.Names.{named-beyond, named-as}
 use Rattle.tables.proofs.triple_at.Statement.{statement}
 use Rattle.tables.proofs.triple_at.Tie as tie
 
-room-requires : tie.Need-room-requires
-room-requires c κs = search needs
+table-length-requires : tie.Need-table-length-requires
+table-length-requires c κs = search needs
 
 returns : tie.Need-returns
 returns c =
     let i = c .before .before .args .i in
-    sym (named-beyond i (subst (λ (x : ℕ). x ≤ i) (c .before .room .ensures) (c .if1 .taken)))
+    sym (named-beyond i (subst (λ (x : ℕ). x ≤ i) (c .before .table-length .ensures) (c .if1 .taken)))
 
 largest-requires : tie.Need-largest-requires
 largest-requires c κs = search needs
 
 -- there is such a triple
 inside : (c : tie.Else1) → c .before .before .args .i < C 64 3
-inside c = subst (λ (x : ℕ). c .before .before .args .i < x) (c .before .room .ensures) (c .if1 .left)
+inside c = subst (λ (x : ℕ). c .before .before .args .i < x) (c .before .table-length .ensures) (c .if1 .left)
 
 highest : (c : tie.After-largest) → c .largest .result ≡ highAt 64 (c .before .before .before .args .i)
 unfolding highAt
 highest c = c .largest .ensures
 
-room-requires-2 : tie.Need-room-requires-2
-room-requires-2 c κs =
+table-length-requires-2 : tie.Need-table-length-requires-2
+table-length-requires-2 c κs =
     let i = c .before .before .before .args .i in
     omega (arith, triple-back 64 i (inside (c .before)) .2, highest c)
 
 -- what the highest species adds to the index, and what the middle one adds
-added : (c : tie.After-room2) → c .room2 .result ≡ C (highAt 64 (c .before .before .before .before .args .i)) 3
-added c = c .room2 .ensures ∙ ap (λ (h : ℕ). C h 3) (highest (c .before))
+added : (c : tie.After-table-length2) → c .table-length2 .result ≡ C (highAt 64 (c .before .before .before .before .args .i)) 3
+added c = c .table-length2 .ensures ∙ ap (λ (h : ℕ). C h 3) (highest (c .before))
 
 middle : (c : tie.After-largest2) → c .largest2 .result ≡ midAt 64 (c .before .before .before .before .before .args .i)
 unfolding midAt
@@ -77,10 +77,10 @@ pub triple-at-spec : {M : Type 1} → statement M
 triple-at-spec =
     tie.close
     (tie.spec
-    room-requires
+    table-length-requires
     returns
     largest-requires
-    room-requires-2
+    table-length-requires-2
     sub-rest
     largest-requires-2
     pairs-requires

@@ -7,7 +7,7 @@ use borrow.Author.Needs.{needs}
 use borrow.Fn.Kinds.{In}
 use borrow.Fn.PlainCycle.{Measures, is, falls, and}
 use lib.ListN.{length}
-use Rattle.writing.specs.Texts.{decimal, glyph}
+use Rattle.writing.specs.Texts.{decimal}
 use Rattle.writing.proofs.Digits.{decimal-digit, decimal-longer, decimal-more}
 use Rattle.writing.proofs.Writing.{writes-as, writes-both}
 use Rattle.writing.proofs.put_decimal.Reads as put-decimal

@@ -1,0 +1,20 @@
+-- Document 01's table, "Numbers handed back": the number and the values of each refusal. A refusal more is a line more.
+use mathlib.Core.List.{[], _∷_}
+use Rattle.answers.specs.Answers.{Told, first-place, first-record, left-over, node-number, rule-broken, stopping-set, table-byte, told, tree-number, triple-index, value}
+use Rattle.answers.specs.declared.Refusal.{Refusal}
+use Rattle.answers.specs.declared.Refusal.the-variants.{BadByte, BadCounts, BadLength, BadRecord, BadTable, BadTree, BadVersion, Contradicted, EndsEarly, LeftOver, NoTree, ShortRoom, Unforced}
+
+abbrev pub refusalTold : Refusal → Told
+refusalTold BadVersion = told 1 []
+refusalTold BadCounts = told 2 []
+refusalTold (EndsEarly k) = told 3 (value tree-number k ∷ [])
+refusalTold (LeftOver m) = told 4 (value left-over m ∷ [])
+refusalTold (BadLength k) = told 5 (value tree-number k ∷ [])
+refusalTold (BadTree x) = told 6 (value tree-number (x .tree) ∷ value node-number (x .node) ∷ rule-broken (x .fault) ∷ [])
+refusalTold BadTable = told 7 []
+refusalTold (BadByte i) = told 8 (value first-place i ∷ [])
+refusalTold ShortRoom = told 9 []
+refusalTold (NoTree u) = told 10 (value stopping-set u ∷ [])
+refusalTold (Contradicted x) = told 11 (value triple-index (x .index) ∷ value table-byte (x .byte) ∷ [])
+refusalTold (Unforced i) = told 12 (value triple-index i ∷ [])
+refusalTold (BadRecord i) = told 13 (value first-record i ∷ [])

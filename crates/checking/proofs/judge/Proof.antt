@@ -1,0 +1,212 @@
+-- `checking::judge` meets its contract: PC first; then each group beside its siblings; and the first triple only where one is not earned.
+-- Assumes nothing.
+use mathlib.Core.List.{List}
+use mathlib.Core.Bool.{So}
+use mathlib.Core.Path.{_≡_, subst}
+use Prim.Native.Nat.{ℕ}
+use native.Mathlib.Omega.{arith}
+use borrow.Author.Needs.{needs}
+use lib.ListN.{getD}
+use Rattle.sets.specs.Species.{Below}
+use Rattle.trees.proofs.Agreement.{R-proper}
+use Rattle.trees.specs.Check.{R, differs, unsure}
+use Rattle.trees.specs.Trees.{Tree, under, wellFormed}
+use Rattle.trees.specs.Triplets.{Proper, Triplets}
+use Rattle.tables.proofs.Bytes.{entered-proper}
+use Rattle.tables.specs.Bytes.{entered}
+use Rattle.tables.specs.Find.{firstTriple}
+use Rattle.tables.specs.Index.{C}
+use Rattle.bodies.specs.Draws.{treeOf}
+use Rattle.groups.specs.Groups.{Candidate}
+use Rattle.masks.specs.Masks.{Masks}
+use Rattle.tables.specs.Finds.{Finds, Hit}
+use Rattle.tables.specs.declared.Found.{Found}
+use Rattle.checking.proofs.Judged.{candidate, formed, good-64, is-contradicted, is-earned, is-sure, is-unforced, nothing-differs, some-nodes, within}
+use Rattle.checking.proofs.judge.Statement.{statement}
+use Rattle.checking.proofs.judge.Tie as tie
+
+-- once PC was looked at
+module _ (c : tie.After-first-contradiction) where
+  abbrev st : tie.Start
+  st = c .before .before .before .before .before .before .before .before .before
+
+  abbrev n : ℕ
+  n = st .args .n
+
+  abbrev E : Triplets
+  E = entered (st .args .t .now)
+
+  abbrev body : List ℕ
+  body = st .args .body .now
+
+  abbrev T : Tree
+  T = treeOf body
+
+  abbrev groups : List ℕ
+  groups = c .before .before .before .before .before .groups2 .last .1 .0
+
+  abbrev meets : List ℕ
+  meets = c .before .before .pairs .last .1 .1 .0
+
+  meant : Candidate n T (getD groups 0 0) meets
+  meant = candidate n body (st .pre .0) (st .pre .1) (st .pre .2) groups meets (c .before .before .before .before .before .groups2 .ensures) (c .before .before .pairs .ensures)
+
+  well : So (wellFormed T)
+  well = formed n body (st .pre .0) (st .pre .1) (st .pre .2)
+
+  low : Below n (under T)
+  low = within n body (st .pre .0) (st .pre .1) (st .pre .2)
+
+  found : Finds n (differs E T) (c .first-contradiction .result)
+  found = c .first-contradiction .ensures T meant
+
+-- nothing differs
+module _ (c : tie.After-enum-told) where
+  abbrev p : tie.After-first-contradiction
+  p = c .before .before
+
+  none : firstTriple (n p) (differs (E p) (T p)) ≡ C (n p) 3
+  none = subst (λ (r : Found). Finds (n p) (differs (E p) (T p)) r) (c .enum-told .given .1) (found p)
+
+-- and what is entered on the triples that the tree resolves is in the masks
+module _ (c : tie.After-relate) where
+  abbrev q : tie.After-enum-told
+  q = c .before .before .before
+
+  abbrev masks : List ℕ
+  masks = c .relate .last .1 .1 .1 .1 .0
+
+  related : Masks (R (E (p q)) (T (p q))) masks
+  related = c .relate .ensures .1 (T (p q)) (meant (p q))
+
+  rp : Proper (R (E (p q)) (T (p q)))
+  rp = R-proper (E (p q)) (entered-proper (st (p q) .args .t .now)) (T (p q))
+
+groups-requires : tie.Need-groups-requires
+groups-requires c κs =
+    let s = c .before .before .before in
+    (good-64 (s .args .n) (s .args .body .now) (s .pre .0) (s .pre .1) (s .pre .2), (some-nodes (s .args .n) (s .args .body .now) (s .pre .0) (s .pre .1) (s .pre .2) .1, search needs))
+
+pairs-requires : tie.Need-pairs-requires
+pairs-requires c κs =
+    let g = c .before .before in
+    let s = g .before .before .before .before in (
+      good-64 (s .args .n) (s .args .body .now) (s .pre .0) (s .pre .1) (s .pre .2),
+      (g .groups2 .ensures, (some-nodes (s .args .n) (s .args .body .now) (s .pre .0) (s .pre .1) (s .pre .2), search needs)),
+    )
+
+array-read-whole : tie.Need-array-read-whole
+array-read-whole c = search needs
+
+first-contradiction-requires : tie.Need-first-contradiction-requires
+first-contradiction-requires c κs = search needs
+
+enum-known-differs : tie.Need-enum-known-differs
+enum-known-differs c = search needs
+
+-- the triple that was found
+differing : (c : tie.After-differs) → Hit (n (c .before .before)) (differs (E (c .before .before)) (T (c .before .before))) (c .differs .given .0 .0)
+differing c = let p = c .before .before in subst (λ (r : Found). Finds (n p) (differs (E p) (T p)) r) (c .differs .given .1) (found p)
+
+index-requires : tie.Need-index-requires
+index-requires c κs = let h = differing (c .before) in (h .low-mid, h .mid-high, omega (arith, h .high-below, st (c .before .before .before) .pre .0))
+
+byte-requires : tie.Need-byte-requires
+byte-requires c κs = let h = differing (c .before .before) in (h .low-mid, h .mid-high, omega (arith, h .high-below, st (c .before .before .before .before) .pre .0))
+
+enum-told : tie.Need-enum-told
+enum-told c = search needs
+
+relate-requires : tie.Need-relate-requires
+relate-requires c κs = search needs
+
+earned-requires : tie.Need-earned-requires
+earned-requires c κs =
+    let x = p (q (c .before .before)) in (
+      good-64 (n x) (body x) (st x .pre .0) (st x .pre .1) (st x .pre .2),
+      (x .before .before .before .before .before .groups2 .ensures, some-nodes (n x) (body x) (st x .pre .0) (st x .pre .1) (st x .pre .2)),
+    )
+
+returns : tie.Need-returns
+returns c =
+    let e = c .before in
+    let r = e .before .before .before in
+    let x = p (q r) in
+    is-earned (n x) (st x .args .t .now) (T x) (well x) (low x) (none (q r)) (e .earned .ensures (R (E x) (T x)) (rp r) (related r) .0 (c .if1 .taken))
+
+-- after the search for a triplet that is not forced
+module _ (u : tie.After-first-unforced) where
+  abbrev related-at : tie.After-relate
+  related-at = u .before .before .before .before .before .before .before
+
+  searched : let x = p (q related-at) in Finds (n x) (unsure (E x) (n x) (T x)) (u .first-unforced .result)
+  searched =
+      let x = p (q related-at) in
+      u .first-unforced .ensures (E x) (T x) (record {
+        few = st x .pre .0;
+        proper = entered-proper (st x .args .t .now);
+        tree = meant x;
+        masked = related related-at;
+        none = nothing-differs (n x) (st x .args .t .now) (T x) (well x) (low x) (none (q related-at));
+      })
+
+loose : (d : tie.After-loose) → let x = p (q (related-at (d .before .before))) in Hit (n x) (unsure (E x) (n x) (T x)) (d .loose .given .0 .0)
+loose d =
+    let x = p (q (related-at (d .before .before))) in
+    subst (λ (z : Found). Finds (n x) (unsure (E x) (n x) (T x)) z) (d .loose .given .1) (searched (d .before .before))
+
+first-unforced-requires : tie.Need-first-unforced-requires
+first-unforced-requires c κs = search needs
+
+enum-known-loose : tie.Need-enum-known-loose
+enum-known-loose c = search needs
+
+index-requires-2 : tie.Need-index-requires-2
+index-requires-2 c κs = let h = loose (c .before) in (h .low-mid, h .mid-high, omega (arith, h .high-below, st (p (q (related-at (c .before .before .before)))) .pre .0))
+
+enum-told-2 : tie.Need-enum-told-2
+enum-told-2 c = search needs
+
+returns-2 : tie.Need-returns-2
+returns-2 c =
+    let d = c .before .before .before in
+    let p = d .before .before in
+    is-contradicted (n p) (st p .args .t .now) (T p) (well p) (low p) (d .differs .given .0 .0) (differing d) _ _ (c .before .index .ensures) (c .byte .ensures .is)
+
+returns-3 : tie.Need-returns-3
+returns-3 c =
+    let d = c .before .before in
+    let u = d .before .before in
+    let r = related-at u in
+    let x = p (q r) in
+    is-unforced (n x) (st x .args .t .now) (T x) (well x) (low x) (none (q r)) (d .loose .given .0 .0) (loose d) _ (c .index2 .ensures)
+
+returns-4 : tie.Need-returns-4
+returns-4 c =
+    let u = c .before .before in
+    let r = related-at u in
+    let x = p (q r) in
+    is-sure (n x) (st x .args .t .now) (T x) (well x) (low x) (none (q r)) (subst (λ (z : Found). Finds (n x) (unsure (E x) (n x) (T x)) z) (c .enum-told2 .given .1) (searched u))
+
+pub judge-spec : {M : Type 1} → statement M
+judge-spec =
+    tie.close
+    (tie.spec
+    groups-requires
+    pairs-requires
+    array-read-whole
+    first-contradiction-requires
+    enum-known-differs
+    index-requires
+    byte-requires
+    enum-told
+    relate-requires
+    earned-requires
+    returns
+    first-unforced-requires
+    enum-known-loose
+    index-requires-2
+    enum-told-2
+    returns-2
+    returns-3
+    returns-4)

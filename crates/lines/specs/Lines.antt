@@ -1,0 +1,76 @@
+-- The line of a call: document 01's number, then what its table lists with it, each after a space; where a table or a room was lent, also after a
+-- refusal, a space, a bar, and its bytes as they are afterwards, each after a space. A line ends with byte 10. (The form is ours: `second/README.md`.)
+use mathlib.Core.List.{List, [], _∷_, _++_}
+use Prim.Native.Nat.{ℕ}
+use lib.ListN.{length}
+use Rattle.bodies.specs.declared.Fault.{Fault}
+use Rattle.bodies.specs.declared.Fault.the-variants.{BadParent, BadSpecies, SeenBefore, OnlyChild}
+use Rattle.answers.specs.Answers.{Told}
+use Rattle.collections.specs.Reads.{readAnswer, readTold}
+use Rattle.listing.specs.Lists.{listAnswer, listAfter}
+use Rattle.entering.specs.Enters.{enterAnswer, enterAfter, enterTold}
+use Rattle.ordering.specs.Orders.{orderAnswer, orderAfter, orderTold}
+use Rattle.building.specs.Builds.{buildAnswer, buildAfter, buildTold}
+use Rattle.checking.specs.Checks.{checkAnswer, checkTold}
+use Rattle.replies.specs.Plain.{Item, plain-number, broken-rule, Plain, plain}
+use Rattle.writing.specs.Texts.{decimal, spaced, ended}
+
+-- a space, and the words parent, species, seen, only
+abbrev pub parent-word : List ℕ
+parent-word = 32 ∷ 112 ∷ 97 ∷ 114 ∷ 101 ∷ 110 ∷ 116 ∷ []
+
+abbrev pub species-word : List ℕ
+species-word = 32 ∷ 115 ∷ 112 ∷ 101 ∷ 99 ∷ 105 ∷ 101 ∷ 115 ∷ []
+
+abbrev pub seen-word : List ℕ
+seen-word = 32 ∷ 115 ∷ 101 ∷ 101 ∷ 110 ∷ []
+
+abbrev pub only-word : List ℕ
+only-word = 32 ∷ 111 ∷ 110 ∷ 108 ∷ 121 ∷ []
+
+-- "bad parent (that parent), bad species (it), species seen before (the earlier node), or only child"
+abbrev pub faultText : Fault → List ℕ
+faultText (BadParent p) = parent-word ++ (32 ∷ decimal p)
+faultText (BadSpecies s) = species-word ++ (32 ∷ decimal s)
+faultText (SeenBefore i) = seen-word ++ (32 ∷ decimal i)
+faultText OnlyChild = only-word
+
+-- what is returned with a number, after a space
+abbrev pub itemText : Item → List ℕ
+itemText (plain-number x) = 32 ∷ decimal x
+itemText (broken-rule f) = faultText f
+
+abbrev pub itemsText : List Item → List ℕ
+itemsText [] = []
+itemsText (i ∷ l) = itemText i ++ itemsText l
+
+-- the number, and what is returned with it
+abbrev pub plainText : Plain → List ℕ
+plainText p = decimal (p .number) ++ itemsText (p .items)
+
+abbrev pub toldText : Told → List ℕ
+toldText t = plainText (plain t)
+
+-- a space, a bar, and each byte after a space
+abbrev pub barred : List ℕ → List ℕ
+barred l = 32 ∷ 124 ∷ spaced l
+
+-- ---- the lines: b is a collection, t a table and o a room as they are before the call
+
+unfoldable pub readLine : List ℕ → List ℕ
+readLine b = ended (toldText (readTold (readAnswer b)))
+
+unfoldable pub listLine : List ℕ → List ℕ → List ℕ
+listLine b t = ended (toldText (readTold (listAnswer b (length t))) ++ barred (listAfter b t))
+
+unfoldable pub enterLine : ℕ → List (List ℕ) → List ℕ → List ℕ
+enterLine n records t = ended (toldText (enterTold (enterAnswer n records (length t))) ++ barred (enterAfter n records t))
+
+unfoldable pub orderLine : ℕ → List ℕ → List ℕ → List ℕ
+orderLine n body o = ended (toldText (orderTold (orderAnswer n body (length o))) ++ barred (orderAfter n body o))
+
+unfoldable pub buildLine : ℕ → List ℕ → List ℕ → List ℕ
+buildLine n t o = ended (toldText (buildTold (buildAnswer n t (length o))) ++ barred (buildAfter n t o))
+
+unfoldable pub checkLine : ℕ → List ℕ → List ℕ → List ℕ
+checkLine n t body = ended (toldText (checkTold (checkAnswer n t body)))

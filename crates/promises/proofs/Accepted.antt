@@ -1,0 +1,208 @@
+-- Every look of an operation passes exactly where its input is good: each law is put together as the order is. Assumes nothing.
+use mathlib.Core.Bool.{Bool, So, _&&_, false, false≢true, not, true}
+use mathlib.Core.List.{List, [], _∷_, _++_}
+use mathlib.Core.Logic.{Iff·trans, _↔_, _⊎_, inl, inr, ⊎-elim}
+use mathlib.Core.Path.{_∙_, _≡_, ap, refl, subst, sym}
+use Prim.Native.Nat.{_<_, _≤_, ℕ}
+use native.Mathlib.Omega.{arith}
+use borrow.Author.Tests.{le-ltb, ltb-false}
+use lib.Dec.{eqb, ltb}
+use lib.ListN.{getD, length}
+use Rattle.trees.proofs.Triplets.{different-e, different-i}
+use Rattle.tables.specs.Bytes.{over, wrongByte, wrongLength}
+use Rattle.tables.specs.Index.{C}
+use Rattle.bodies.specs.Draws.{treeOf}
+use Rattle.bodies.specs.Faults.{fault}
+use Rattle.bodies.specs.Nodes.{badLength, nodes, roomFor}
+use Rattle.bodies.specs.declared.Verdict.{Verdict}
+use Rattle.bodies.specs.declared.Verdict.the-variants.{Breaks, Fine}
+use Rattle.answers.proofs.Answered.{Each, first-among, first-on, first-stop, number-zero, pass-both, pass-false, pass-one, refuse-one}
+use Rattle.answers.proofs.Good.{body-pass, count-pass, length-pass, room-pass, table-pass}
+use Rattle.answers.specs.Answers.{Told, Value}
+use Rattle.answers.specs.Inputs.{Body, Count, Table}
+use Rattle.answers.specs.Looks.{firstRefusal, lookTold, lookBytes, lookCount, lookLength, lookRoom, lookRules, lookTable, refuseIf, ruled, wrongCount}
+use Rattle.answers.specs.Refusals.{refusalTold}
+use Rattle.answers.specs.declared.Look.{Look}
+use Rattle.answers.specs.declared.Look.the-variants.{Pass, Refuse}
+use Rattle.answers.specs.declared.Refusal.{Refusal}
+use Rattle.answers.specs.declared.Refusal.the-variants.{BadByte, BadCounts, BadLength, BadRecord, BadTable, BadTree, Contradicted, ShortRoom, Unforced}
+use Rattle.answers.specs.declared.Contradiction.{Contradiction}
+use Rattle.collections.proofs.Whole.{read-pass}
+use Rattle.collections.specs.Collection.{Collection}
+use Rattle.collections.specs.Layout.{species}
+use Rattle.collections.specs.Reads.{readLooks}
+use Rattle.entering.proofs.Records.{firstBad-le, firstBad-none, good-e, good-i, none-firstBad}
+use Rattle.entering.specs.Enters.{enterLooks, firstBad}
+use Rattle.listing.specs.Lists.{listLooks}
+use Rattle.ordering.specs.Orders.{orderLooks}
+use Rattle.building.specs.Builds.{inputLooks, lookOutcome, outcome}
+use Rattle.checking.specs.Checks.{firstDiffers, firstUnsure, triplesLooks}
+use Rattle.trees.specs.Build.{Outcome, stop, tree}
+use Rattle.promises.specs.Together.{RefusesBadAlone}
+use Rattle.promises.specs.Inputs.{Buildable, Checkable, Enterable, Listable, Orderable, Triplet}
+
+-- every look of l passes exactly where P is so
+abbrev Passed : List Look → Type 0 → Type 0
+Passed l P = (firstRefusal l ≡ Pass) ↔ P
+
+-- the laws below are put together from such parts
+record Exactly (l : List Look) (P : Type 0) : Type 0 where
+  so : Passed l P
+
+one-look : (a : Look) {P : Type 0} → (a ≡ Pass) ↔ P → Exactly (a ∷ []) P
+one-look a p = record { so = pass-one a p }
+
+infixr 20 _then_
+_then_ : {l m : List Look} {P Q : Type 0} → Exactly l P → Exactly m Q → Exactly (l ++ m) (P × Q)
+_then_ {l} {m} p q = record { so = pass-both l m (p .so) (q .so) }
+
+-- and said of a record with the parts as fields
+recorded : {l : List Look} {P Q : Type 0} → Exactly l P → (P → Q) → (Q → P) → Passed l Q
+recorded p f g = Iff·trans (p .so) (f, g)
+
+-- 13
+record-pass : (n : ℕ) (rs : List (List ℕ)) → (refuseIf (ltb (firstBad n rs) (length rs)) (BadRecord (firstBad n rs)) ≡ Pass) ↔ ((i : ℕ) → i < length rs → Triplet n (getD rs i []))
+record-pass n rs = (
+  (λ e i l.
+      let b : firstBad n rs ≡ length rs = omega (arith, ltb-false (firstBad n rs) (length rs) (pass-false (ltb (firstBad n rs) (length rs)) _ e), firstBad-le n rs) in
+      let g = good-e n _ _ _ (firstBad-none n rs b i l) in
+      let d = different-e _ _ _ (g .apart) in
+      record { left-below = g .first; right-below = g .second; outer-below = g .third; pair = d .0; left-outer = d .1; right-outer = d .2 }),
+  λ g.
+      let b = none-firstBad n rs (λ i l. let q = g i l in good-i n _ _ _ (record {
+        apart = different-i _ _ _ (q .pair) (q .left-outer) (q .right-outer);
+        first = q .left-below;
+        second = q .right-below;
+        third = q .outer-below;
+      })) in
+      rw (le-ltb (firstBad n rs) (length rs) (omega (arith, b))) refl,
+)
+
+long : (n l : ℕ) → Exactly (lookTable n l ∷ []) (l ≡ C n 3)
+long n l = one-look (lookTable n l) (length-pass n l)
+
+whole : (b : List ℕ) → Exactly (readLooks b) (Collection b)
+whole b = record { so = read-pass b }
+
+counted : (n : ℕ) → Exactly (lookCount n ∷ []) (Count n)
+counted n = one-look (lookCount n) (count-pass n)
+
+tabled : (n : ℕ) (t : List ℕ) → Exactly (lookTable n (length t) ∷ lookBytes t ∷ []) (Table n t)
+tabled n t = record { so = table-pass n t }
+
+bodied : (n : ℕ) (b : List ℕ) → Exactly (lookLength 0 (length b) ∷ lookRules 0 n b ∷ []) (Body n b)
+bodied n b = record { so = body-pass 0 n b }
+
+roomed : (k l : ℕ) → Exactly (lookRoom k l ∷ []) (k ≤ l)
+roomed k l = one-look (lookRoom k l) (room-pass k l)
+
+pub list-pass : (b t : List ℕ) → Passed (listLooks b (length t)) (Listable b t)
+list-pass b t = recorded (whole b then long (species b) (length t)) (λ p. record { collection = p .0; long = p .1 }) (λ g. (g .collection, g .long))
+
+pub enter-pass : (n : ℕ) (rs : List (List ℕ)) (t : List ℕ) → Passed (enterLooks n rs (length t)) (Enterable n rs t)
+enter-pass n rs t = recorded (counted n then (long n (length t) then one-look _ (record-pass n rs)))
+    (λ p. record { count = p .0; long = p .1 .0; records = p .1 .1 }) (λ g. (g .count, (g .long, g .records)))
+
+pub order-pass : (n : ℕ) (b o : List ℕ) → Passed (orderLooks n b (length o)) (Orderable n b o)
+order-pass n b o = recorded (counted n then (bodied n b then roomed (length b) (length o)))
+    (λ p. record { count = p .0; body = p .1 .0; room = p .1 .1 }) (λ g. (g .count, (g .body, g .room)))
+
+pub build-pass : (n : ℕ) (t o : List ℕ) → Passed (inputLooks n t (length o)) (Buildable n t o)
+build-pass n t o = recorded (counted n then (tabled n t then roomed (roomFor n) (length o)))
+    (λ p. record { count = p .0; table = p .1 .0; room = p .1 .1 }) (λ g. (g .count, (g .table, g .room)))
+
+-- 2, 7, 8, 5, 6 of the check
+abbrev pub bothLooks : ℕ → List ℕ → List ℕ → List Look
+bothLooks n t b = lookCount n ∷ lookTable n (length t) ∷ lookBytes t ∷ lookLength 0 (length b) ∷ lookRules 0 n b ∷ []
+
+pub check-pass : (n : ℕ) (t b : List ℕ) → Passed (bothLooks n t b) (Checkable n t b)
+check-pass n t b = recorded (counted n then (tabled n t then bodied n b))
+    (λ p. record { count = p .0; table = p .1 .0; body = p .1 .1 }) (λ g. (g .count, (g .table, g .body)))
+
+-- ---- 10, 11 and 12 speak of the outcome; every other refusal speaks of the input
+
+abbrev ofInput : ℕ → Bool
+ofInput k = not (eqb k 10) && (not (eqb k 11) && not (eqb k 12))
+
+abbrev Input : Refusal → Type 0
+Input x = So (ofInput (refusalTold x .number))
+
+one : (c : Bool) (y : Refusal) → Input y → (x : Refusal) → refuseIf c y ≡ Refuse x → Input x
+one c y h = refuse-one Input c y h
+
+rules : (v : Verdict) (x : Refusal) → ruled v ≡ Refuse x → Input x
+rules Fine x e = let z : _≡_ {A = ℕ} 0 1 = cc in absurd (omega arith)
+rules (Breaks y) x e = let z : BadTree y ≡ x = cc in subst Input z refl
+
+build-input : (n : ℕ) (t : List ℕ) (l : ℕ) → Each Input (inputLooks n t l)
+build-input n t l = (
+  one (wrongCount n) BadCounts refl,
+  (one (wrongLength n (length t)) BadTable refl, (one (wrongByte t) (BadByte (over t)) refl, (one (ltb l (roomFor n)) ShortRoom refl, tt))),
+)
+
+check-input : (n : ℕ) (t b : List ℕ) → Each Input (bothLooks n t b)
+check-input n t b = (
+  one (wrongCount n) BadCounts refl,
+  (
+    one (wrongLength n (length t)) BadTable refl,
+    (one (wrongByte t) (BadByte (over t)) refl, (one (badLength (length b)) (BadLength 0) refl, (rules (fault 0 (nodes b) n), tt))),
+  ),
+)
+
+-- ---- an operation that keeps demand 1 refuses input exactly when it is not good
+
+zero-good : (r : Told) (k : Look) (vs : List Value) → r ≡ lookTold k vs → {P : Type 0} → (k ≡ Pass) ↔ P → (r .number ≡ 0) ↔ P
+zero-good r k vs e p =
+    let n = ap (λ (t : Told). t .number) e in
+    ((λ z. p .0 (number-zero k vs .0 (sym n ∙ z))), λ x. n ∙ number-zero k vs .1 (p .1 x))
+
+-- the looks l at input come before others, m, whose numbers Q has; of those that speak of no outcome it has 0 alone
+module _ (l m : List Look) (vs : List Value) (h : Each Input l) (Q : ℕ → Type 0) (none : (k : ℕ) → Q k → So (ofInput k) → k ≡ 0) (last : Q (lookTold (firstRefusal m) vs .number)) where
+  input-pass : Q (lookTold (firstRefusal (l ++ m)) vs .number) → firstRefusal l ≡ Pass
+  input-pass q = go (firstRefusal l) refl
+    where
+      go : (k : Look) → firstRefusal l ≡ k → firstRefusal l ≡ Pass
+      go Pass e = e
+      go (Refuse x) e =
+          let s = first-stop l m x e in
+          let z = number-zero (firstRefusal (l ++ m)) vs .0 (none _ q (subst (λ (k : Look). So (ofInput (lookTold k vs .number))) (sym s) (first-among Input l h x e))) in
+          let w : Refuse x ≡ Pass = sym s ∙ z in
+          let y : _≡_ {A = ℕ} 0 1 = cc in
+          absurd (omega arith)
+
+  input-good : (r : Told) → r ≡ lookTold (firstRefusal (l ++ m)) vs → {P : Type 0} → (firstRefusal l ≡ Pass) ↔ P → Q (r .number) ↔ P
+  input-good r e p = (
+    (λ q. p .0 (input-pass (subst (λ (t : Told). Q (t .number)) e q))),
+    λ x. subst (λ (t : Told). Q (t .number)) (sym (e ∙ ap (λ (k : Look). lookTold k vs) (first-on l m (p .1 x)))) last,
+  )
+
+-- a number of which the test is false is not that of a refusal of input
+not-input : (m : ℕ) → ofInput m ≡ false → (k : ℕ) → So (ofInput k) → k ≡ m → ⊥
+not-input m f k s e = false≢true (sym f ∙ subst (λ (j : ℕ). So (ofInput j)) e s)
+
+abbrev Ten : ℕ → Type 0
+Ten k = (k ≡ 0) ⊎ (k ≡ 10)
+
+ten : (R : Outcome) (vs : List Value) → Ten (lookTold (firstRefusal (lookOutcome R ∷ [])) vs .number)
+ten (tree T) vs = inl refl
+ten (stop U) vs = inr refl
+
+abbrev Eleven : ℕ → Type 0
+Eleven k = (k ≡ 0) ⊎ ((k ≡ 11) ⊎ (k ≡ 12))
+
+eleven : (p q : Bool) (x : Contradiction) (j : ℕ) → Eleven (lookTold (firstRefusal (refuseIf p (Contradicted x) ∷ refuseIf q (Unforced j) ∷ [])) [] .number)
+eleven true q x j = inr (inl refl)
+eleven false true x j = inr (inr refl)
+eleven false false x j = inl refl
+
+pub accepts : RefusesBadAlone
+accepts L d = record {
+  reading = λ b. zero-good (L .read b) (firstRefusal (readLooks b)) _ (d .reading b) (read-pass b);
+  listing = λ b t. zero-good (L .list b t .told) (firstRefusal (listLooks b (length t))) _ (d .listing b t .told-is) (list-pass b t);
+  entering = λ n rs t. zero-good (L .enter n rs t .told) (firstRefusal (enterLooks n rs (length t))) _ (d .entering n rs t .told-is) (enter-pass n rs t);
+  ordering = λ n b o. zero-good (L .order n b o .told) (firstRefusal (orderLooks n b (length o))) _ (d .ordering n b o .told-is) (order-pass n b o);
+  building = λ n t o. input-good (inputLooks n t (length o)) (lookOutcome (outcome n t) ∷ []) _ (build-input n t (length o)) Ten
+      (λ k q s. ⊎-elim (λ z. z) (λ z. absurd (not-input 10 refl k s z)) q) (ten (outcome n t) _) (L .build n t o .told) (d .building n t o .told-is) (build-pass n t o);
+  checking = λ n t b. input-good (bothLooks n t b) (triplesLooks n t (treeOf b)) [] (check-input n t b) Eleven
+      (λ k q s. ⊎-elim (λ z. z) (⊎-elim (λ z. absurd (not-input 11 refl k s z)) (λ z. absurd (not-input 12 refl k s z))) q) (eleven (ltb (firstDiffers n t (treeOf b)) (C n 3)) (ltb (firstUnsure n t (treeOf b)) (C n 3)) _ _) (L .check n t b) (d .checking n t b) (check-pass n t b);
+}

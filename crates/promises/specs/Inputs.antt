@@ -1,0 +1,50 @@
+-- Good input of each operation, in document 01's sentences; of reading it is `Collection`. What a count, a table and a body are, `answers` says.
+use mathlib.Core.List.{List, []}
+use mathlib.Core.Logic.{_≢_}
+use mathlib.Core.Path.{_≡_}
+use Prim.Native.Nat.{ℕ, _<_, _≤_}
+use lib.ListN.{getD, length}
+use Rattle.tables.specs.Index.{C}
+use Rattle.bodies.specs.Nodes.{roomFor}
+use Rattle.answers.specs.Inputs.{Body, Count, Table}
+use Rattle.collections.specs.Collection.{Collection}
+use Rattle.collections.specs.Layout.{species}
+use Rattle.entering.specs.Enters.{left, outer, right}
+
+-- "Listing: the collection's refusals, then 7"
+pub record Listable (b t : List ℕ) : Type 0 where
+  pub collection : Collection b
+  pub long : length t ≡ C (species b) 3
+
+-- a record that does not repeat a species, and has none that is not below n
+pub record Triplet (n : ℕ) (r : List ℕ) : Type 0 where
+  pub left-below : left r < n
+  pub right-below : right r < n
+  pub outer-below : outer r < n
+  pub pair : left r ≢ right r
+  pub left-outer : left r ≢ outer r
+  pub right-outer : right r ≢ outer r
+
+-- "Entering: 2, 7, 13"
+pub record Enterable (n : ℕ) (rs : List (List ℕ)) (t : List ℕ) : Type 0 where
+  pub count : Count n
+  pub long : length t ≡ C n 3
+  pub records : (i : ℕ) → i < length rs → Triplet n (getD rs i [])
+
+-- "House order: 2, 5, 6, 9 (room shorter than the body)"
+pub record Orderable (n : ℕ) (b o : List ℕ) : Type 0 where
+  pub count : Count n
+  pub body : Body n b
+  pub room : length b ≤ length o
+
+-- "Build: 2, 7, 8, 9 (room under 4n - 2 bytes)"
+pub record Buildable (n : ℕ) (t o : List ℕ) : Type 0 where
+  pub count : Count n
+  pub table : Table n t
+  pub room : roomFor n ≤ length o
+
+-- "Check: 2, 7, 8, 5, 6"
+pub record Checkable (n : ℕ) (t b : List ℕ) : Type 0 where
+  pub count : Count n
+  pub table : Table n t
+  pub body : Body n b

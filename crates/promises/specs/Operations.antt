@@ -1,0 +1,74 @@
+-- Functions that claim to be the operations. The demands are stated of them, so that a useless one can be shown to break the very same words.
+use mathlib.Core.List.{List}
+use Prim.Native.Nat.{ℕ}
+use lib.ListN.{length}
+use Rattle.answers.specs.Answers.{Told}
+use Rattle.collections.specs.Reads.{readAnswer, readTold}
+use Rattle.listing.specs.Lists.{listAfter, listAnswer}
+use Rattle.entering.specs.Enters.{enterAfter, enterAnswer, enterTold}
+use Rattle.ordering.specs.Orders.{orderAfter, orderAnswer, orderTold}
+use Rattle.building.specs.Builds.{buildAfter, buildAnswer, buildTold}
+use Rattle.checking.specs.Checks.{checkAnswer, checkTold}
+
+-- what a call gives back: document 01's number with its values, and what the lent memory holds afterwards
+pub record Given : Type 0 where
+  pub told : Told
+  pub after : List ℕ
+
+abbrev pub gives : Told → List ℕ → Given
+gives r o = record { told = r; after = o }
+
+-- from a collection
+abbrev pub Reader : Type 0
+Reader = List ℕ → Told
+
+-- from a collection, and a lent table
+abbrev pub Lister : Type 0
+Lister = List ℕ → List ℕ → Given
+
+-- from n, records, and a lent table
+abbrev pub Enterer : Type 0
+Enterer = ℕ → List (List ℕ) → List ℕ → Given
+
+-- from n, a body, and lent room
+abbrev pub Orderer : Type 0
+Orderer = ℕ → List ℕ → List ℕ → Given
+
+-- from n, a table, and lent room
+abbrev pub Builder : Type 0
+Builder = ℕ → List ℕ → List ℕ → Given
+
+-- from n, a table and a body
+abbrev pub Checker : Type 0
+Checker = ℕ → List ℕ → List ℕ → Told
+
+pub record Operations : Type 0 where
+  pub read : Reader
+  pub list : Lister
+  pub enter : Enterer
+  pub order : Orderer
+  pub build : Builder
+  pub check : Checker
+
+-- ---- ours: by the contract of each public function, what it answers and leaves is this and nothing else (`at-most-one` of `answers`)
+
+abbrev pub reads : Reader
+reads b = readTold (readAnswer b)
+
+abbrev pub lists : Lister
+lists b t = record { told = readTold (listAnswer b (length t)); after = listAfter b t }
+
+abbrev pub enters : Enterer
+enters n rs t = record { told = enterTold (enterAnswer n rs (length t)); after = enterAfter n rs t }
+
+abbrev pub orders : Orderer
+orders n b o = record { told = orderTold (orderAnswer n b (length o)); after = orderAfter n b o }
+
+abbrev pub builds : Builder
+builds n t o = record { told = buildTold (buildAnswer n t (length o)); after = buildAfter n t o }
+
+abbrev pub checks : Checker
+checks n t b = checkTold (checkAnswer n t b)
+
+abbrev pub koodhaxil : Operations
+koodhaxil = record { read = reads; list = lists; enter = enters; order = orders; build = builds; check = checks }

@@ -1,0 +1,172 @@
+-- Different refusals, answers and replies have different numbers or items: each is found again from them. Assumes nothing.
+use mathlib.Core.Bool.{cond}
+use mathlib.Core.List.{[]}
+use mathlib.Core.Logic.{_≢_}
+use mathlib.Core.Path.{_∙_, _≡_, ap, refl, sym}
+use Prim.Native.Nat.{ℕ}
+use native.Mathlib.Omega.{arith}
+use borrow.Author.Tests.{ne-eqb}
+use lib.Dec.{eqb}
+use lib.ListN.{getD, length}
+use Rattle.bodies.specs.declared.Broken.{Broken}
+use Rattle.bodies.specs.declared.Fault.{Fault}
+use Rattle.bodies.specs.declared.Fault.the-variants.{OnlyChild}
+use Rattle.answers.proofs.Answered.{number-zero}
+use Rattle.answers.specs.Refusals.{refusalTold}
+use Rattle.answers.specs.declared.Look.the-variants.{Pass, Refuse}
+use Rattle.answers.specs.declared.Refusal.{Refusal}
+use Rattle.answers.specs.declared.Refusal.the-variants.{BadByte, BadCounts, BadLength, BadRecord, BadTable, BadTree, BadVersion, Contradicted, EndsEarly, LeftOver, NoTree, ShortRoom, Unforced}
+use Rattle.collections.specs.Reads.{readTold}
+use Rattle.collections.specs.declared.Answer as Reading
+use Rattle.entering.specs.Enters.{enterTold}
+use Rattle.entering.specs.declared.Answer as Entering
+use Rattle.ordering.specs.Orders.{orderTold}
+use Rattle.ordering.specs.declared.Answer as Ordering
+use Rattle.building.specs.Builds.{buildTold}
+use Rattle.building.specs.declared.Answer as Building
+use Rattle.checking.specs.Checks.{checkTold}
+use Rattle.checking.specs.declared.Answer as Checking
+use Rattle.replies.specs.Plain.{Apart, Item, Plain, ToldApart, broken-rule, plain, plain-number}
+use Rattle.replies.specs.Replied.{replied}
+use Rattle.replies.specs.declared.Reply.{Reply}
+use Rattle.replies.specs.declared.Reply.the-variants as Replies
+
+-- what is found again from what it gives is told apart by it
+found-apart : {A B : Type 0} (f : A → B) (found : B → A) → ((a : A) → found (f a) ≡ a) → Apart f
+found-apart f found is a b e = sym (is a) ∙ ap found e ∙ is b
+
+-- ---- the items, by their places
+
+abbrev numberIn : Item → ℕ
+numberIn (plain-number n) = n
+numberIn (broken-rule f) = 0
+
+abbrev faultIn : Item → Fault
+faultIn (plain-number n) = OnlyChild
+faultIn (broken-rule f) = f
+
+abbrev numberAt : ℕ → Plain → ℕ
+numberAt i p = numberIn (getD (p .items) i (plain-number 0))
+
+abbrev brokenIn : Plain → Broken
+brokenIn p = record { tree = numberAt 0 p; node = numberAt 1 p; fault = faultIn (getD (p .items) 2 (plain-number 0)) }
+
+-- ---- refusals
+
+abbrev refusalIn : Plain → Refusal
+refusalIn p =
+    cond (eqb (p .number) 1) BadVersion
+    (cond (eqb (p .number) 2) BadCounts
+    (cond (eqb (p .number) 3) (EndsEarly (numberAt 0 p))
+    (cond (eqb (p .number) 4) (LeftOver (numberAt 0 p))
+    (cond (eqb (p .number) 5) (BadLength (numberAt 0 p))
+    (cond (eqb (p .number) 6) (BadTree (brokenIn p))
+    (cond (eqb (p .number) 7) BadTable
+    (cond (eqb (p .number) 8) (BadByte (numberAt 0 p))
+    (cond (eqb (p .number) 9) ShortRoom
+    (cond (eqb (p .number) 10) (NoTree (numberAt 0 p))
+    (cond (eqb (p .number) 11) (Contradicted (record { index = numberAt 0 p; byte = numberAt 1 p }))
+    (cond (eqb (p .number) 12) (Unforced (numberAt 0 p))
+    (BadRecord (numberAt 0 p)))))))))))))
+
+refusal-found : (x : Refusal) → refusalIn (plain (refusalTold x)) ≡ x
+refusal-found BadVersion = refl
+refusal-found BadCounts = refl
+refusal-found (EndsEarly k) = refl
+refusal-found (LeftOver m) = refl
+refusal-found (BadLength k) = refl
+refusal-found (BadTree x) = refl
+refusal-found BadTable = refl
+refusal-found (BadByte i) = refl
+refusal-found ShortRoom = refl
+refusal-found (NoTree u) = refl
+refusal-found (Contradicted x) = refl
+refusal-found (Unforced i) = refl
+refusal-found (BadRecord i) = refl
+
+pub refusal-apart : ToldApart refusalTold
+refusal-apart = found-apart (λ (x : Refusal). plain (refusalTold x)) refusalIn refusal-found
+
+-- ---- answers: on 0 done, else a refusal
+
+refusal-some : (x : Refusal) → refusalTold x .number ≢ 0
+refusal-some x e =
+    let p : Refuse x ≡ Pass = number-zero (Refuse x) [] .0 e in
+    let z : _≡_ {A = ℕ} 0 1 = cc in
+    omega arith
+
+module _ {A : Type 0} (done : Plain → A) (refused : Refusal → A) where
+  abbrev answerIn : Plain → A
+  answerIn p = cond (eqb (p .number) 0) (done p) (refused (refusalIn p))
+
+  refused-found : (x : Refusal) → answerIn (plain (refusalTold x)) ≡ refused x
+  refused-found x = rw (ne-eqb (refusalTold x .number) 0 (refusal-some x)) (ap refused (refusal-found x))
+
+-- reading, and listing
+abbrev readBack : Plain → Reading.Answer
+readBack p = Reading.the-variants.Done (record { n = numberAt 0 p; trees = numberAt 1 p })
+
+read-found : (a : Reading.Answer) → answerIn readBack Reading.the-variants.Refused (plain (readTold a)) ≡ a
+read-found (Reading.the-variants.Done w) = refl
+read-found (Reading.the-variants.Refused x) = refused-found readBack Reading.the-variants.Refused x
+
+pub read-apart : ToldApart readTold
+read-apart = found-apart (λ (a : Reading.Answer). plain (readTold a)) (answerIn readBack Reading.the-variants.Refused) read-found
+
+abbrev enterBack : Plain → Entering.Answer
+enterBack p = Entering.the-variants.Done (record { n = numberAt 0 p })
+
+enter-found : (a : Entering.Answer) → answerIn enterBack Entering.the-variants.Refused (plain (enterTold a)) ≡ a
+enter-found (Entering.the-variants.Done w) = refl
+enter-found (Entering.the-variants.Refused x) = refused-found enterBack Entering.the-variants.Refused x
+
+pub enter-apart : ToldApart enterTold
+enter-apart = found-apart (λ (a : Entering.Answer). plain (enterTold a)) (answerIn enterBack Entering.the-variants.Refused) enter-found
+
+abbrev orderBack : Plain → Ordering.Answer
+orderBack p = Ordering.the-variants.Done (record { nodes = numberAt 0 p })
+
+order-found : (a : Ordering.Answer) → answerIn orderBack Ordering.the-variants.Refused (plain (orderTold a)) ≡ a
+order-found (Ordering.the-variants.Done w) = refl
+order-found (Ordering.the-variants.Refused x) = refused-found orderBack Ordering.the-variants.Refused x
+
+pub order-apart : ToldApart orderTold
+order-apart = found-apart (λ (a : Ordering.Answer). plain (orderTold a)) (answerIn orderBack Ordering.the-variants.Refused) order-found
+
+abbrev buildBack : Plain → Building.Answer
+buildBack p = Building.the-variants.Done (record { nodes = numberAt 0 p })
+
+build-found : (a : Building.Answer) → answerIn buildBack Building.the-variants.Refused (plain (buildTold a)) ≡ a
+build-found (Building.the-variants.Done w) = refl
+build-found (Building.the-variants.Refused x) = refused-found buildBack Building.the-variants.Refused x
+
+pub build-apart : ToldApart buildTold
+build-apart = found-apart (λ (a : Building.Answer). plain (buildTold a)) (answerIn buildBack Building.the-variants.Refused) build-found
+
+abbrev checkBack : Plain → Checking.Answer
+checkBack p = Checking.the-variants.Passes
+
+check-found : (a : Checking.Answer) → answerIn checkBack Checking.the-variants.Refused (plain (checkTold a)) ≡ a
+check-found Checking.the-variants.Passes = refl
+check-found (Checking.the-variants.Refused x) = refused-found checkBack Checking.the-variants.Refused x
+
+pub check-apart : ToldApart checkTold
+check-apart = found-apart (λ (a : Checking.Answer). plain (checkTold a)) (answerIn checkBack Checking.the-variants.Refused) check-found
+
+-- ---- replies
+
+abbrev replyIn : Plain → Reply
+replyIn p =
+    cond (eqb (length (p .items)) 0) (Replies.Bare (p .number))
+    (cond (eqb (length (p .items)) 1) (Replies.One (p .number) (numberAt 0 p))
+    (cond (eqb (length (p .items)) 2) (Replies.Two (p .number) (numberAt 0 p) (numberAt 1 p))
+    (Replies.Broken (brokenIn p))))
+
+reply-found : (r : Reply) → replyIn (replied r) ≡ r
+reply-found (Replies.Bare k) = refl
+reply-found (Replies.One k x) = refl
+reply-found (Replies.Two k x y) = refl
+reply-found (Replies.Broken x) = refl
+
+pub replied-apart : Apart replied
+replied-apart = found-apart replied replyIn reply-found

@@ -1,0 +1,3 @@
+-- The laws of replies.
+pub mod Replying
+pub mod Apart

@@ -1,0 +1,3 @@
+-- Answers as plain numbers: definitions only.
+pub mod Plain
+pub mod Replied

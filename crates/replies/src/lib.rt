@@ -1,0 +1,89 @@
+// An answer as plain numbers: document 01's number, and what is returned with it.
+ghost use mathlib.Core.Path.{_≡_};
+ghost use Rattle.answers.specs.Refusals.{refusalTold};
+ghost use Rattle.collections.specs.Reads.{readTold};
+ghost use Rattle.entering.specs.Enters.{enterTold};
+ghost use Rattle.ordering.specs.Orders.{orderTold};
+ghost use Rattle.building.specs.Builds.{buildTold};
+ghost use Rattle.checking.specs.Checks.{checkTold};
+ghost use Rattle.replies.specs.Plain.{plain};
+ghost use Rattle.replies.specs.Replied.{replied};
+
+// A number alone, with one value, with two, and refusal 6.
+pub enum Reply {
+    Bare(usize),
+    One(usize, usize),
+    Two(usize, usize, usize),
+    Broken(bodies::Broken),
+}
+
+// The reply of a refusal.
+fn refusal(x: answers::Refusal) -> Reply
+    ensures { λ r. ⌜ replied r ≡ plain (refusalTold x) ⌝ }
+{
+    match x {
+        answers::Refusal::BadVersion => Reply::Bare(1),
+        answers::Refusal::BadCounts => Reply::Bare(2),
+        answers::Refusal::EndsEarly(k) => Reply::One(3, k),
+        answers::Refusal::LeftOver(m) => Reply::One(4, m),
+        answers::Refusal::BadLength(k) => Reply::One(5, k),
+        answers::Refusal::BadTree(b) => Reply::Broken(b),
+        answers::Refusal::BadTable => Reply::Bare(7),
+        answers::Refusal::BadByte(i) => Reply::One(8, i),
+        answers::Refusal::ShortRoom => Reply::Bare(9),
+        answers::Refusal::NoTree(u) => Reply::One(10, u as usize),
+        answers::Refusal::Contradicted(c) => Reply::Two(11, c.index, c.byte as usize),
+        answers::Refusal::Unforced(i) => Reply::One(12, i),
+        answers::Refusal::BadRecord(i) => Reply::One(13, i),
+    }
+}
+
+// The reply to an answer of reading, and of listing.
+pub fn read(a: collections::Answer) -> Reply
+    ensures { λ r. ⌜ replied r ≡ plain (readTold a) ⌝ }
+{
+    match a {
+        collections::Answer::Done(c) => Reply::Two(0, c.n, c.trees),
+        collections::Answer::Refused(x) => refusal(x),
+    }
+}
+
+// The reply to an answer of entering.
+pub fn enter(a: entering::Answer) -> Reply
+    ensures { λ r. ⌜ replied r ≡ plain (enterTold a) ⌝ }
+{
+    match a {
+        entering::Answer::Done(e) => Reply::One(0, e.n),
+        entering::Answer::Refused(x) => refusal(x),
+    }
+}
+
+// The reply to an answer of house order.
+pub fn order(a: ordering::Answer) -> Reply
+    ensures { λ r. ⌜ replied r ≡ plain (orderTold a) ⌝ }
+{
+    match a {
+        ordering::Answer::Done(w) => Reply::One(0, w.nodes),
+        ordering::Answer::Refused(x) => refusal(x),
+    }
+}
+
+// The reply to an answer of building.
+pub fn build(a: building::Answer) -> Reply
+    ensures { λ r. ⌜ replied r ≡ plain (buildTold a) ⌝ }
+{
+    match a {
+        building::Answer::Done(w) => Reply::One(0, w.nodes),
+        building::Answer::Refused(x) => refusal(x),
+    }
+}
+
+// The reply to an answer of the check.
+pub fn check(a: checking::Answer) -> Reply
+    ensures { λ r. ⌜ replied r ≡ plain (checkTold a) ⌝ }
+{
+    match a {
+        checking::Answer::Passes => Reply::Bare(0),
+        checking::Answer::Refused(x) => refusal(x),
+    }
+}

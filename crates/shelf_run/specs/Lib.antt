@@ -1,0 +1,2 @@
+-- What `shelf` hands on: definitions only.
+pub mod Runs

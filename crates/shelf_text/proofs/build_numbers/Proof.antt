@@ -1,0 +1,18 @@
+-- By the reply to the answer. Assumes nothing.
+use mathlib.Core.Path.{_∙_, ap}
+use borrow.Author.Needs.{needs}
+use Rattle.shelf_text.specs.Shelf.{shownNumbers}
+use Rattle.shelf_text.proofs.build_numbers.Statement.{statement}
+use Rattle.shelf_text.proofs.build_numbers.Tie as tie
+
+build-requires : tie.Need-build-requires
+build-requires c κs = search needs
+
+shown-requires : tie.Need-shown-requires
+shown-requires c κs = search needs
+
+returns : tie.Need-returns
+returns c = c .shown .ensures ∙ ap shownNumbers (c .before .build .ensures)
+
+pub build-numbers-spec : {M : Type 1} → statement M
+build-numbers-spec = tie.close (tie.spec build-requires shown-requires returns)

@@ -1,0 +1,3 @@
+-- Laws of reading.
+mod Reading
+mod Made

@@ -1,0 +1,54 @@
+-- So many items of so many bytes are no more bytes than a field may have. Assumes nothing.
+use Prim.Native.Nat.{ℕ, _*_, _≤_, _/_}
+use native.Mathlib.Nat.{mul-div-le, mul-le-mul-left, le-trans}
+use native.Mathlib.Omega.{arith}
+use borrow.Author.Needs.{needs}
+use Rattle.trial.proofs.calls.read_field.Statement.{statement}
+use Rattle.trial.proofs.calls.read_field.Tie as tie
+
+fits : (most item n : ℕ) → n ≤ most / item → item * n ≤ most
+fits most item n h = le-trans (mul-le-mul-left item h) (mul-div-le most item)
+
+returns : tie.Need-returns
+returns c = search needs
+
+div-read-size : tie.Need-div-read-size
+div-read-size c = search needs
+
+read-size-requires : tie.Need-read-size-requires
+read-size-requires c κs = search needs
+
+mul-n : tie.Need-mul-n
+mul-n c =
+    let s = c .before .before .before in
+    record { fits = omega (arith, fits _ (s .before .before .before .before .before .args .item) (s .read-size .result .n) (s .read-size .ensures .1)) }
+
+fetch-requires : tie.Need-fetch-requires
+fetch-requires c κs =
+    let s = c .before .before .before .before .before .before in
+    let b = s .before .before .before .before .before in
+    (search needs, omega (arith, fits _ (b .args .item) (s .read-size .result .n) (s .read-size .ensures .1)))
+
+same-length : tie.Need-same-length
+same-length c = search needs
+
+same-length-2 : tie.Need-same-length-2
+same-length-2 c = search needs
+
+returns-2 : tie.Need-returns-2
+returns-2 c =
+    let s = c .before .before .before .before .before .before .before .before .before .before .before in
+    (search needs, fits _ (s .before .before .before .before .before .args .item) (s .read-size .result .n) (s .read-size .ensures .1))
+
+pub read-field-spec : {M : Type 1} → statement M
+read-field-spec =
+    tie.close
+    (tie.spec
+    returns
+    div-read-size
+    read-size-requires
+    mul-n
+    fetch-requires
+    same-length
+    same-length-2
+    returns-2)

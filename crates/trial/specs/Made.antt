@@ -1,0 +1,37 @@
+-- Which line is written for which call. The form is ours: `second/README.md`.
+use mathlib.Core.Bool.{cond}
+use mathlib.Core.List.{List, [], _∷_}
+use mathlib.Core.Logic.{_⊎_}
+use mathlib.Core.Path.{_≡_}
+use Prim.Native.Nat.{ℕ}
+use lib.Dec.{eqb}
+use lib.ListN.{getD, take}
+use Rattle.lines.specs.Lines.{buildLine, checkLine, enterLine, listLine, orderLine, readLine}
+use Rattle.writing.specs.Writes.{Writes}
+use Rattle.trial.specs.Records.{recordsOf}
+use Rattle.trial.specs.declared.calls.Call.{Call}
+
+-- the line of a call with the byte k, the number n, and the fields x and y: r reads, l lists, e enters, o puts in house order, b builds, and c, the last one, checks
+abbrev pub callLine : ℕ → ℕ → List ℕ → List ℕ → List ℕ
+callLine k n x y =
+    cond (eqb k 114) (readLine x) (
+    cond (eqb k 108) (listLine x y) (cond (eqb k 101) (enterLine n (recordsOf x) y) (cond (eqb k 111) (orderLine n x y) (cond (eqb k 98) (buildLine n x y) (checkLine n x y))))
+    )
+
+-- "cut", and byte 10
+abbrev pub cut-line : List ℕ
+cut-line = 99 ∷ 117 ∷ 116 ∷ 10 ∷ []
+
+-- what is written for the call c: of one that has not begun nothing, and `cut` of one that is not whole
+abbrev pub madeLine : Call → List ℕ → List ℕ → List ℕ
+madeLine c x y = cond (c .begun) (cond (c .left .whole) (callLine (c .byte) (getD (c .numbers) 0 0) x y) cut-line) []
+
+-- of a call that was read into longer fields: how long each is the call says
+abbrev pub callText : Call → List ℕ → List ℕ → List ℕ
+callText c x y = madeLine c (take (c .first) x) (take (c .second) y)
+
+-- where len bytes of o waited to be printed, the text w stands behind them, or at the front, once they were printed; it is o′ now, and r bytes wait
+pub record Waits (o : List ℕ) (len : ℕ) (w o′ : List ℕ) (r : ℕ) : Type 0 where
+  pub at : ℕ
+  pub behind : (at ≡ len) ⊎ (at ≡ 0)
+  pub writes : Writes o at w o′ r

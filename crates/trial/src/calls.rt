@@ -1,0 +1,198 @@
+// How a call is written: its byte, then its numbers, then its fields.
+use crate::input::Input;
+ghost use mathlib.Core.Path.{_≡_};
+ghost use Prim.Native.Nat.{_+_, _<_, _≤_, _^_};
+ghost use lib.ListN.{length};
+ghost use Rattle.trial.specs.Inputs.{Inside};
+ghost use Rattle.trial.specs.Numbers.{fourAt, eightAt};
+
+// What follows the byte of a call: how many numbers, and how many bytes an item of each field has; 0 where the call has no such field. An item is a
+// byte or a record.
+struct Shape {
+    known: bool,
+    numbers: usize,
+    first: usize,
+    second: usize,
+}
+
+// Three numbers, the first of which were read.
+struct Numbers {
+    values: [usize; 3],
+    left: Input,
+}
+
+// How many items, or how many bytes, were read.
+struct Size {
+    n: usize,
+    left: Input,
+}
+
+// The byte of a call and its numbers.
+struct Head {
+    begun: bool,
+    byte: u8,
+    shape: Shape,
+    numbers: [usize; 3],
+    left: Input,
+}
+
+// A call that was read: its byte, its numbers, and how many bytes each field has. `begun` says that its byte was there, and `left` that all of it was.
+pub struct Call {
+    pub begun: bool,
+    pub byte: u8,
+    pub numbers: [usize; 3],
+    pub first: usize,
+    pub second: usize,
+    pub left: Input,
+}
+
+// The shape of a call that there is.
+fn row(numbers: usize, first: usize, second: usize) -> Shape
+    ensures { λ r. ⌜ (r .numbers ≡ numbers) × (r .first ≡ first) × (r .second ≡ second) ⌝ }
+{
+    Shape {
+        known: true,
+        numbers: numbers,
+        first: first,
+        second: second,
+    }
+}
+
+// The shape of each call.
+fn shape_of(byte: u8) -> Shape
+    ensures { λ r. ⌜ r .numbers ≤ 3 ⌝ }
+{
+    match byte {
+        b'r' => row(0, 1, 0),
+        b'l' => row(0, 1, 1),
+        b'e' => row(1, 3, 1),
+        b'o' | b'b' | b'c' => row(1, 1, 1),
+        _ => Shape {
+            known: false,
+            numbers: 0,
+            first: 0,
+            second: 0,
+        },
+    }
+}
+
+fn wide(x: u8) -> usize
+    ensures { λ r. ⌜ (r ≡ x) × (r < 256) ⌝ }
+{
+    x as usize
+}
+
+// Four bytes as a number, big-endian.
+fn four(b: &[u8], i: usize) -> usize
+    requires { ⌜ i + 4 ≤ length (now b) ⌝ }
+    ensures { λ r. ⌜ (r ≡ fourAt (now (b .entry)) i) × (r < 2 ^ 32) ⌝ }
+{
+    256 * (256 * (256 * wide(b[i]) + wide(b[i + 1])) + wide(b[i + 2])) + wide(b[i + 3])
+}
+
+// Eight bytes as a number.
+fn eight(b: &[u8], i: usize) -> usize
+    requires { ⌜ i + 8 ≤ length (now b) ⌝ }
+    ensures { λ r. ⌜ r ≡ eightAt (now (b .entry)) i ⌝ }
+{
+    4294967296 * four(b, i) + four(b, i + 4)
+}
+
+// Reads k numbers; the others are 0.
+fn read_numbers(buffer: &mut [u8], from: Input, k: usize) -> Numbers
+    requires { ⌜ Inside from (now buffer) × (k ≤ 3) ⌝ }
+    ensures { λ r. ⌜ Inside (r .left) (now (buffer .exit)) ⌝ }
+{
+    let mut b = [0u8; 24];
+    let left = crate::input::fetch(buffer, from, &mut b, 8 * k);
+    let values = [eight(&b, 0), eight(&b, 8), eight(&b, 16)];
+    Numbers {
+        values: values,
+        left: left,
+    }
+}
+
+// Reads a length, or a count, of at most `most`.
+fn read_size(buffer: &mut [u8], from: Input, most: usize) -> Size
+    requires { ⌜ Inside from (now buffer) ⌝ }
+    ensures { λ r. ⌜ Inside (r .left) (now (buffer .exit)) × (r .n ≤ most) ⌝ }
+{
+    let mut b = [0u8; 4];
+    let left = crate::input::fetch(buffer, from, &mut b, 4);
+    let n = four(&b, 0);
+    if n > most {
+        return Size {
+            n: 0,
+            left: crate::input::cut(),
+        };
+    }
+    Size { n: n, left: left }
+}
+
+// Reads a field to the front of `to`: how many items of `item` bytes it has, and then those. One for which `to` is too short is cut.
+fn read_field(buffer: &mut [u8], from: Input, item: usize, to: &mut [u8]) -> Size
+    requires { ⌜ Inside from (now buffer) ⌝ }
+    ensures { λ r. ⌜ Inside (r .left) (now (buffer .exit)) × (r .n ≤ length (now (to .entry))) ⌝ }
+{
+    if item == 0 {
+        return Size { n: 0, left: from };
+    }
+    let s = read_size(buffer, from, to.len() / item);
+    let n = item * s.n;
+    let left = s.left;
+    Size {
+        n: n,
+        left: crate::input::fetch(buffer, left, to, n),
+    }
+}
+
+// An unknown call is cut.
+fn only_if(known: bool, from: Input) -> Input
+    requires { ⌜ from .at ≤ from .end ⌝ }
+    ensures { λ r. ⌜ (r .at ≤ r .end) × (r .end ≤ from .end) ⌝ }
+{
+    if known { from } else { crate::input::cut() }
+}
+
+// Reads the byte of a call, and its numbers.
+fn read_head(buffer: &mut [u8], from: Input) -> Head
+    requires { ⌜ Inside from (now buffer) ⌝ }
+    ensures { λ r. ⌜ Inside (r .left) (now (buffer .exit)) ⌝ }
+{
+    let b = crate::input::next(buffer, from);
+    let begun = b.left;
+    let s = shape_of(b.value);
+    let n = read_numbers(buffer, only_if(s.known, begun), s.numbers);
+    let values = n.values;
+    let left = n.left;
+    Head {
+        begun: begun.whole,
+        byte: b.value,
+        shape: s,
+        numbers: values,
+        left: left,
+    }
+}
+
+// Reads a call.
+pub fn read_call(buffer: &mut [u8], from: Input, first: &mut [u8], second: &mut [u8]) -> Call
+    requires { ⌜ Inside from (now buffer) ⌝ }
+    ensures { λ r. ⌜ Inside (r .left) (now (buffer .exit)) × (r .first ≤ length (now (first .entry))) × (r .second ≤ length (now (second .entry))) ⌝ }
+{
+    let h = read_head(buffer, from);
+    let s = h.shape;
+    let a = h.left;
+    let x = read_field(buffer, a, s.first, first);
+    let b = x.left;
+    let y = read_field(buffer, b, s.second, second);
+    let numbers = h.numbers;
+    let left = y.left;
+    Call {
+        begun: h.begun,
+        byte: h.byte,
+        numbers: numbers,
+        first: x.n,
+        second: y.n,
+        left: left,
+    }
+}

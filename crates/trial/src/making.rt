@@ -1,0 +1,111 @@
+// A call that was read is made, and its line written.
+use crate::calls::Call;
+ghost use mathlib.Core.Path.{_≡_};
+ghost use mathlib.Core.Logic.{_⊎_};
+ghost use Prim.Native.Nat.{_+_, _*_, _<_, _≤_, _/_};
+ghost use lib.ListN.{length, take};
+ghost use Rattle.lines.specs.Lines.{enterLine};
+ghost use Rattle.writing.specs.Writes.{Writes};
+ghost use Rattle.trial.specs.Records.{Room, recordAt, recordsOf};
+ghost use Rattle.trial.specs.Made.{Waits, callText, madeLine};
+
+// Record i of the bytes b.
+fn record(b: &[u8], i: usize) -> [u8; 3]
+    requires { ⌜ 3 * i + 2 < length (now b) ⌝ }
+    ensures { λ r. ⌜ r ≡ recordAt (now (b .entry)) i ⌝ }
+{
+    [b[3 * i], b[3 * i + 1], b[3 * i + 2]]
+}
+
+// Lays the bytes out as records, and answers how many there are.
+fn gather(b: &[u8], records: &mut [[u8; 3]]) -> usize
+    requires { ⌜ length (now b) / 3 ≤ length (now records) ⌝ }
+    ensures { λ r. ⌜ (r ≡ length (now (b .entry)) / 3) × (take r (now (records .exit)) ≡ recordsOf (now (b .entry))) ⌝ }
+{
+    let m = b.len() / 3;
+    let mut i = 0;
+    while i < m {
+        let r = record(b, i);
+        records[i] = r;
+        i += 1;
+    }
+    m
+}
+
+// Enters the records that the bytes b are.
+fn enter_line(
+    out: &mut [u8],
+    at: usize,
+    n: usize,
+    b: &[u8],
+    records: &mut [[u8; 3]],
+    t: &mut [u8],
+) -> usize
+    requires { ⌜ (at + 4 * length (now t) + 100 ≤ length (now out)) × (length (now b) / 3 ≤ length (now records)) ⌝ }
+    ensures { λ r. ⌜ Writes (now (out .entry)) at (enterLine n (recordsOf (now (b .entry))) (now (t .entry))) (now (out .exit)) r ⌝ }
+{
+    let m = gather(b, records);
+    lines::enter_line(out, at, n, &records[0..m], t)
+}
+
+// Makes a call, and writes its line: of one that has not begun none, and `cut` of one that is not whole.
+fn line(
+    c: Call,
+    first: &[u8],
+    second: &mut [u8],
+    records: &mut [[u8; 3]],
+    out: &mut [u8],
+    at: usize,
+) -> usize
+    requires { ⌜ (at + 4 * length (now second) + 100 ≤ length (now out)) × (length (now first) / 3 ≤ length (now records)) ⌝ }
+    ensures { λ r. ⌜ Writes (now (out .entry)) at (madeLine c (now (first .entry)) (now (second .entry))) (now (out .exit)) r ⌝ }
+{
+    let byte = c.byte;
+    let n = c.numbers[0];
+    let left = c.left;
+    if !c.begun {
+        return at;
+    }
+    if !left.whole {
+        return writing::put_word(out, at, b"cut\n");
+    }
+    match byte {
+        b'r' => lines::read_line(out, at, first),
+        b'l' => lines::list_line(out, at, first, second),
+        b'e' => enter_line(out, at, n, first, records, second),
+        b'o' => lines::order_line(out, at, n, first, second),
+        b'b' => lines::build_line(out, at, n, first, second),
+        _ => lines::check_line(out, at, n, first, second),
+    }
+}
+
+// Prints the text that waits, where the next line may not fit behind it.
+fn make_room(out: &[u8], len: usize, line: usize) -> usize
+    requires { ⌜ (len ≤ length (now out)) × (line ≤ length (now out)) ⌝ }
+    ensures { λ r. ⌜ (r + line ≤ length (now (out .entry))) × ((r ≡ len) ⊎ (r ≡ 0)) ⌝ }
+{
+    if line <= out.len() - len {
+        return len;
+    }
+    io::write_all(1, &out[0..len]);
+    0
+}
+
+// Makes a call, and writes its line behind the text that waits: how much text waits then.
+pub fn make(
+    c: Call,
+    first: &[u8],
+    second: &mut [u8],
+    records: &mut [[u8; 3]],
+    out: &mut [u8],
+    len: usize,
+) -> usize
+    requires { ⌜ (c .first ≤ length (now first)) × (c .second ≤ length (now second)) × (len ≤ length (now out)) ⌝ }
+    requires { ⌜ Room (now first) (now second) (now records) (now out) ⌝ }
+    ensures { λ r. ⌜ Waits (now (out .entry)) len (callText c (now (first .entry)) (now (second .entry))) (now (out .exit)) r ⌝ }
+{
+    let i = c.first;
+    let j = c.second;
+    let at = make_room(out, len, 4 * j + 100);
+    line(c, &first[0..i], &mut second[0..j], records, out, at)
+}
