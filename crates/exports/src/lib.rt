@@ -1,10 +1,11 @@
 // The operations as C functions on numbers and slices: each returns document 01's number, and lays what is returned with it into `values`.
 ghost use mathlib.Core.Path.{_≡_};
-ghost use mathlib.Core.List.{[], _∷_};
+ghost use mathlib.Core.List.{[], _∷_, map};
 ghost use lib.ListN.{length, set};
 ghost use Rattle.collections.specs.Reads.{readAnswer, readTold};
 ghost use Rattle.listing.specs.Lists.{listAnswer, listAfter};
 ghost use Rattle.entering.specs.Enters.{enterAnswer, enterAfter, enterTold};
+ghost use Rattle.triplets.specs.Spelled.{spelled};
 ghost use Rattle.ordering.specs.Orders.{orderAnswer, orderAfter, orderTold};
 ghost use Rattle.building.specs.Builds.{buildAnswer, buildAfter, buildTold};
 ghost use Rattle.checking.specs.Checks.{checkAnswer, checkTold};
@@ -89,18 +90,18 @@ pub extern "C" fn koodhaxil_list(b: &[u8], t: &mut [u8], values: &mut [usize]) -
     lay(replies::read(a), values)
 }
 
-// Enters records of three numbers into the table t. A refusal leaves every byte of t as it was.
+// Enters triplets into the table t. A refusal leaves every byte of t as it was.
 #[no_mangle]
 pub extern "C" fn koodhaxil_enter(
     n: usize,
-    records: &[[u8; 3]],
+    records: &[triplets::Triplet],
     t: &mut [u8],
     values: &mut [usize],
 ) -> usize
-    ensures { λ r. ⌜ Handed (enterTold (enterAnswer n (now (records .entry)) (length (now (t .entry))))) (now (values .entry)) r (now (values .exit)) ⌝ }
-    ensures { λ _. ⌜ now (t .exit) ≡ enterAfter n (now (records .entry)) (now (t .entry)) ⌝ }
+    ensures { λ r. ⌜ Handed (enterTold (enterAnswer n (map spelled (now (records .entry))) (length (now (t .entry))))) (now (values .entry)) r (now (values .exit)) ⌝ }
+    ensures { λ _. ⌜ now (t .exit) ≡ enterAfter n (map spelled (now (records .entry))) (now (t .entry)) ⌝ }
 {
-    let a = entering::enter(n, records, t);
+    let a = triplets::enter(n, records, t);
     lay(replies::enter(a), values)
 }
 

@@ -7,6 +7,7 @@ use Prim.Native.Nat.{ℕ, zero, suc, _-_, _≤_}
 use native.Mathlib.Omega.{arith}
 use lib.Dec.{ltb}
 use lib.ListN.{length, length-replicate, replicate, take}
+use contract.Monad.{fact-mono}
 use Rattle.sets.specs.Species.{below}
 use Rattle.tables.specs.Bytes.{entered}
 use Rattle.tables.specs.Index.{C}
@@ -216,7 +217,7 @@ forms b = go (firstRefusal (readLooks b)) refl
 
 pub shows-forms : ShowsForms koodhaxil
 shows-forms = record {
-  one-of = λ κs a r s h. subst (Forms koodhaxil (a .0 .now)) (sym (h .0)) (forms (a .0 .now));
+  one-of = λ M 𝓤 H A mem run κs a g r s. fact-mono 𝓤 _ _ (λ h. subst (Forms koodhaxil (a .0 .now)) (sym (h .0)) (forms (a .0 .now)));
   unread-alone = λ b x y p q. ⊎-elim (λ s. p .unread (s .collection)) (λ s. p .unread (s .collection)) q;
   stop-alone = λ b x y p q. p .no-tree (_, q .keeps .held);
 }

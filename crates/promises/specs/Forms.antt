@@ -14,8 +14,7 @@ use Rattle.bodies.specs.Nodes.{longest}
 use Rattle.answers.specs.Answers.{Name, Told, Value, node-number, told, tree-number, triple-index, value}
 use Rattle.collections.specs.Collection.{Collection}
 use Rattle.collections.specs.Layout.{species}
-use Rattle.shelf_text.proofs.shelf.Kinds as shelf-kinds
-use Rattle.shelf_text.proofs.shelf.Reads as shelf
+use Rattle.shelf_text.proofs.shelf as shelf
 use Rattle.shelf_text.specs.Shelf.{build-word, check-word, read-word}
 use Rattle.shelf_text.specs.Texts.{line, numbers}
 use Rattle.promises.specs.Operations.{Given, Operations}
@@ -82,7 +81,7 @@ module _ (L : Operations) (b : List ℕ) where
   Forms text = ShowsUnread text ⊎ (ShowsStop text ⊎ ShowsTree text)
 
 -- after any call of `shelf_text::shelf`, whatever bytes are handed in: the text has one of the three forms, and the bytes alone say which
-pub record ShowsForms (L : Operations) : Type 0 where
-  pub one-of : After 3 shelf-kinds.ps shelf-kinds.r shelf.Learnt (λ κs a r s. Forms L (a .0 .now) (take r (s .1 .1 .0 .now)))
+pub record ShowsForms (L : Operations) : Type 2 where
+  pub one-of : After shelf.ended (λ M. shelf.clauses) (λ κs a r s. Forms L (a .0 .now) (take r (s .1 .1 .0 .now)))
   pub unread-alone : (b x y : List ℕ) → ShowsUnread L b x → (ShowsStop L b y ⊎ ShowsTree L b y) → ⊥
   pub stop-alone : (b x y : List ℕ) → ShowsStop L b x → ShowsTree L b y → ⊥

@@ -1,3 +1,2 @@
--- Laws of reading.
-mod Reading
+-- Laws of the lines.
 mod Made

@@ -1,49 +1,57 @@
 -- Which line a call has, by its byte. Assumes nothing.
-use mathlib.Core.Bool.{false, not, true}
+use mathlib.Core.Bool.{Bool, false, true}
 use mathlib.Core.List.{List, []}
-use mathlib.Core.Path.{_≡_, refl}
+use mathlib.Core.Logic.{_⊎_, inl, inr}
+use mathlib.Core.Path.{_≡_, refl, subst, sym}
 use Prim.Native.Nat.{ℕ}
-use borrow.Author.Tests.{ne-eqb, not-false, not-true}
-use lib.ListN.{getD}
-use Rattle.lines.specs.Lines.{buildLine, checkLine, enterLine, listLine, orderLine, readLine}
-use Rattle.trial.specs.Made.{cut-line, madeLine}
-use Rattle.trial.specs.Records.{recordsOf}
-use Rattle.trial.specs.declared.calls.Call.{Call}
+use borrow.Author.Tests.{ne-eqb}
+use lib.ListN.{getD, take}
+use Rattle.calls.specs.Calls.{ReadCall}
+use Rattle.lines.specs.Lines.{checkLine}
+use Rattle.writing.specs.Writes.{Writes}
+use Rattle.trial.specs.Made.{OneCall, Waits, callLine, callText, cut-line, madeLine}
+use Rattle.calls.specs.declared.Call.{Call}
+use Rattle.calls.specs.declared.input.Input.{Input}
+
+module _ {o o′ : List ℕ} {at r : ℕ} where
+  -- a byte that is this one has its line
+  pub line-same : (k j n : ℕ) (x y : List ℕ) → k ≡ j → Writes o at (callLine j n x y) o′ r → Writes o at (callLine k n x y) o′ r
+  line-same k j n x y e w = subst (λ (z : ℕ). Writes o at (callLine z n x y) o′ r) (sym e) w
+
+  -- one that is none of these has that of the check
+  pub line-check : (k n : ℕ) (x y : List ℕ) → (k ≡ 114 → ⊥) → (k ≡ 108 → ⊥) → (k ≡ 101 → ⊥) → (k ≡ 111 → ⊥) → (k ≡ 98 → ⊥) → Writes o at (checkLine n x y) o′ r → Writes o at (callLine k n x y) o′ r
+  line-check k n x y a l e h b w = rw (ne-eqb k 114 a, ne-eqb k 108 l, ne-eqb k 101 e, ne-eqb k 111 h, ne-eqb k 98 b) w
 
 module _ (c : Call) (x y : List ℕ) where
-  pub made-none : not (c .begun) ≡ true → [] ≡ madeLine c x y
-  made-none h = rw (not-true (c .begun) h) refl
+  pub made-none : c .begun ≡ false → [] ≡ madeLine c x y
+  made-none b = rw b refl
 
-  module _ (b : not (c .begun) ≡ false) where
-    pub made-cut : not (c .left .whole) ≡ true → cut-line ≡ madeLine c x y
-    made-cut h = rw (not-false (c .begun) b, not-true (c .left .whole) h) refl
+  pub made-cut : c .begun ≡ true → c .left .whole ≡ false → cut-line ≡ madeLine c x y
+  made-cut b w = rw (b, w) refl
 
-    module _ (w : not (c .left .whole) ≡ false) where
-      abbrev n : ℕ
-      n = getD (c .numbers) 0 0
+  pub made-whole : c .begun ≡ true → c .left .whole ≡ true → callLine (c .byte) (getD (c .numbers) 0 0) x y ≡ madeLine c x y
+  made-whole b w = rw (b, w) refl
 
-      pub made-read : c .byte ≡ 114 → readLine x ≡ madeLine c x y
-      made-read e = rw (not-false (c .begun) b, not-false (c .left .whole) w, e) refl
+  made-else : (t : Bool) → c .begun ≡ t → c .left .whole ≡ false → (madeLine c x y ≡ cut-line) ⊎ (madeLine c x y ≡ [])
+  made-else true b w = inl (sym (made-cut b w))
+  made-else false b w = inr (sym (made-none b))
 
-      pub made-list : c .byte ≡ 108 → listLine x y ≡ madeLine c x y
-      made-list e = rw (not-false (c .begun) b, not-false (c .left .whole) w, e) refl
-
-      pub made-enter : c .byte ≡ 101 → enterLine n (recordsOf x) y ≡ madeLine c x y
-      made-enter e = rw (not-false (c .begun) b, not-false (c .left .whole) w, e) refl
-
-      pub made-order : c .byte ≡ 111 → orderLine n x y ≡ madeLine c x y
-      made-order e = rw (not-false (c .begun) b, not-false (c .left .whole) w, e) refl
-
-      pub made-build : c .byte ≡ 98 → buildLine n x y ≡ madeLine c x y
-      made-build e = rw (not-false (c .begun) b, not-false (c .left .whole) w, e) refl
-
-      pub made-check : (c .byte ≡ 114 → ⊥) → (c .byte ≡ 108 → ⊥) → (c .byte ≡ 101 → ⊥) → (c .byte ≡ 111 → ⊥) → (c .byte ≡ 98 → ⊥) → checkLine n x y ≡ madeLine c x y
-      made-check r l e o d = rw (
-        not-false (c .begun) b,
-        not-false (c .left .whole) w,
-        ne-eqb (c .byte) 114 r,
-        ne-eqb (c .byte) 108 l,
-        ne-eqb (c .byte) 101 e,
-        ne-eqb (c .byte) 111 o,
-        ne-eqb (c .byte) 98 d,
-      ) refl
+-- a call that was read, and its line
+pub one-call : {i : Input} {b b′ o o′ : List ℕ} {len r : ℕ} (c : Call) (x y : List ℕ) → ReadCall i b c b′ x y → Waits o len (callText c x y) o′ r → OneCall i b (c .left) b′ o len o′ r
+one-call c x y h w = record {
+  text = callText c x y;
+  waits = w;
+  whole = λ t.
+      let k = h .bytes .took t in
+      record {
+        bytes = k .0;
+        took = k .1;
+        byte = c .byte;
+        numbers = c .numbers;
+        first = take (c .first) x;
+        second = take (c .second) y;
+        call = k .2;
+        line = sym (made-whole c (take (c .first) x) (take (c .second) y) (h .begun t) t);
+      };
+  cut = λ t. made-else c (take (c .first) x) (take (c .second) y) (c .begun) refl t;
+}

@@ -1,5 +1,3 @@
--- How the input of `trial` is read: definitions only.
-pub mod Inputs
-pub mod Numbers
+-- Which line a call gets: definitions only.
 pub mod Records
 pub mod Made

@@ -1,22 +1,27 @@
 -- Which line is written for which call. The form is ours: `second/README.md`.
-use mathlib.Core.Bool.{cond}
+use mathlib.Core.Bool.{cond, false, true}
 use mathlib.Core.List.{List, [], _∷_}
 use mathlib.Core.Logic.{_⊎_}
 use mathlib.Core.Path.{_≡_}
 use Prim.Native.Nat.{ℕ}
 use lib.Dec.{eqb}
 use lib.ListN.{getD, take}
+use Rattle.calls.specs.Calls.{CallBytes}
+use Rattle.calls.specs.Inputs.{Took}
 use Rattle.lines.specs.Lines.{buildLine, checkLine, enterLine, listLine, orderLine, readLine}
 use Rattle.writing.specs.Writes.{Writes}
 use Rattle.trial.specs.Records.{recordsOf}
-use Rattle.trial.specs.declared.calls.Call.{Call}
+use Rattle.calls.specs.declared.Call.{Call}
+use Rattle.calls.specs.declared.input.Input.{Input}
 
 -- the line of a call with the byte k, the number n, and the fields x and y: r reads, l lists, e enters, o puts in house order, b builds, and c, the last one, checks
 abbrev pub callLine : ℕ → ℕ → List ℕ → List ℕ → List ℕ
 callLine k n x y =
     cond (eqb k 114) (readLine x) (
-    cond (eqb k 108) (listLine x y) (cond (eqb k 101) (enterLine n (recordsOf x) y) (cond (eqb k 111) (orderLine n x y) (cond (eqb k 98) (buildLine n x y) (checkLine n x y))))
-    )
+    cond (eqb k 108) (listLine x y) (
+    cond (eqb k 101) (enterLine n (recordsOf x) y) (
+    cond (eqb k 111) (orderLine n x y) (
+    cond (eqb k 98) (buildLine n x y) (checkLine n x y)))))
 
 -- "cut", and byte 10
 abbrev pub cut-line : List ℕ
@@ -35,3 +40,21 @@ pub record Waits (o : List ℕ) (len : ℕ) (w o′ : List ℕ) (r : ℕ) : Type
   pub at : ℕ
   pub behind : (at ≡ len) ⊎ (at ≡ 0)
   pub writes : Writes o at w o′ r
+
+-- of the input i with the buffer b, which are i′ and b′ now, the bytes of a call were read, and the text w is the line of this call
+pub record MadeFrom (i : Input) (b : List ℕ) (i′ : Input) (b′ w : List ℕ) : Type 0 where
+  pub bytes : List ℕ
+  pub took : Took i b bytes i′ b′
+  pub byte : ℕ
+  pub numbers : List ℕ
+  pub first : List ℕ
+  pub second : List ℕ
+  pub call : CallBytes byte numbers first second bytes
+  pub line : w ≡ callLine byte (getD numbers 0 0) first second
+
+-- so it is with the text that now stands behind what waited, where all of the call was there; else the text is `cut`, or nothing
+pub record OneCall (i : Input) (b : List ℕ) (i′ : Input) (b′ o : List ℕ) (len : ℕ) (o′ : List ℕ) (r : ℕ) : Type 0 where
+  pub text : List ℕ
+  pub waits : Waits o len text o′ r
+  pub whole : i′ .whole ≡ true → MadeFrom i b i′ b′ text
+  pub cut : i′ .whole ≡ false → (text ≡ cut-line) ⊎ (text ≡ [])

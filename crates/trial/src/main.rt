@@ -1,13 +1,12 @@
 // Reads calls of the operations on standard input, and prints the line of each.
-use input::Input;
+use calls::input::Input;
 ghost use mathlib.Core.Path.{_≡_};
 ghost use Prim.Native.Nat.{_<_, _≤_};
 ghost use lib.ListN.{length};
-ghost use Rattle.trial.specs.Inputs.{Inside};
+ghost use Rattle.calls.specs.Inputs.{InBuffer};
 ghost use Rattle.trial.specs.Records.{Room};
+ghost use Rattle.trial.specs.Made.{OneCall};
 
-mod calls;
-mod input;
 mod making;
 
 // How many calls are made at most: the program ends.
@@ -29,9 +28,10 @@ fn one_call(
     out: &mut [u8],
     len: usize,
 ) -> State
-    requires { ⌜ Inside from (now buffer) × (len ≤ length (now out)) ⌝ }
+    requires { ⌜ InBuffer from (now buffer) × (len ≤ length (now out)) ⌝ }
     requires { ⌜ Room (now first) (now second) (now records) (now out) ⌝ }
-    ensures { λ r. ⌜ Inside (r .left) (now (buffer .exit)) × (r .len ≤ length (now (out .entry))) ⌝ }
+    ensures { λ r. ⌜ OneCall from (now (buffer .entry)) (r .left) (now (buffer .exit)) (now (out .entry)) len (now (out .exit)) (r .len) ⌝ }
+    ensures { λ r. ⌜ InBuffer (r .left) (now (buffer .exit)) × (r .len ≤ length (now (out .entry))) ⌝ }
 {
     let c = calls::read_call(buffer, from, first, second);
     let left = c.left;
@@ -60,7 +60,7 @@ fn answer(
     requires { ⌜ Room (now first) (now second) (now records) (now out) ⌝ }
     ensures { λ r. ⌜ r ≤ length (now (out .exit)) ⌝ }
 {
-    let mut left = input::begin();
+    let mut left = calls::input::begin();
     let mut len = 0;
     let mut calls = MOST_CALLS;
     while 0 < calls {

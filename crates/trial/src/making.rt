@@ -1,5 +1,5 @@
 // A call that was read is made, and its line written.
-use crate::calls::Call;
+use calls::Call;
 ghost use mathlib.Core.Path.{_≡_};
 ghost use mathlib.Core.Logic.{_⊎_};
 ghost use Prim.Native.Nat.{_+_, _*_, _<_, _≤_, _/_};
@@ -7,7 +7,7 @@ ghost use lib.ListN.{length, take};
 ghost use Rattle.lines.specs.Lines.{enterLine};
 ghost use Rattle.writing.specs.Writes.{Writes};
 ghost use Rattle.trial.specs.Records.{Room, recordAt, recordsOf};
-ghost use Rattle.trial.specs.Made.{Waits, callText, madeLine};
+ghost use Rattle.trial.specs.Made.{Waits, callLine, callText, madeLine};
 
 // Record i of the bytes b.
 fn record(b: &[u8], i: usize) -> [u8; 3]
@@ -48,7 +48,30 @@ fn enter_line(
     lines::enter_line(out, at, n, &records[0..m], t)
 }
 
-// Makes a call, and writes its line: of one that has not begun none, and `cut` of one that is not whole.
+// Makes the call with this byte, and writes its line.
+fn call_line(
+    byte: u8,
+    n: usize,
+    first: &[u8],
+    second: &mut [u8],
+    records: &mut [[u8; 3]],
+    out: &mut [u8],
+    at: usize,
+) -> usize
+    requires { ⌜ (at + 4 * length (now second) + 100 ≤ length (now out)) × (length (now first) / 3 ≤ length (now records)) ⌝ }
+    ensures { λ r. ⌜ Writes (now (out .entry)) at (callLine byte n (now (first .entry)) (now (second .entry))) (now (out .exit)) r ⌝ }
+{
+    match byte {
+        b'r' => lines::read_line(out, at, first),
+        b'l' => lines::list_line(out, at, first, second),
+        b'e' => enter_line(out, at, n, first, records, second),
+        b'o' => lines::order_line(out, at, n, first, second),
+        b'b' => lines::build_line(out, at, n, first, second),
+        _ => lines::check_line(out, at, n, first, second),
+    }
+}
+
+// Writes the line of a call: of one that has not begun none, and `cut` of one that is not whole.
 fn line(
     c: Call,
     first: &[u8],
@@ -60,7 +83,6 @@ fn line(
     requires { ⌜ (at + 4 * length (now second) + 100 ≤ length (now out)) × (length (now first) / 3 ≤ length (now records)) ⌝ }
     ensures { λ r. ⌜ Writes (now (out .entry)) at (madeLine c (now (first .entry)) (now (second .entry))) (now (out .exit)) r ⌝ }
 {
-    let byte = c.byte;
     let n = c.numbers[0];
     let left = c.left;
     if !c.begun {
@@ -69,14 +91,7 @@ fn line(
     if !left.whole {
         return writing::put_word(out, at, b"cut\n");
     }
-    match byte {
-        b'r' => lines::read_line(out, at, first),
-        b'l' => lines::list_line(out, at, first, second),
-        b'e' => enter_line(out, at, n, first, records, second),
-        b'o' => lines::order_line(out, at, n, first, second),
-        b'b' => lines::build_line(out, at, n, first, second),
-        _ => lines::check_line(out, at, n, first, second),
-    }
+    call_line(c.byte, n, first, second, records, out, at)
 }
 
 // Prints the text that waits, where the next line may not fit behind it.

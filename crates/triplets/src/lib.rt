@@ -5,7 +5,8 @@ ghost use Rattle.entering.specs.Enters.{firstBad, Enters};
 ghost use Rattle.entering.specs.Passes.{Ready, filled};
 ghost use Rattle.triplets.specs.Spelled.{spelled, nearer};
 
-// A triplet by its species: ab|c.
+// A triplet by its species: ab|c. C has it as three bytes.
+#[repr(C)]
 pub struct Triplet {
     pub a: u8,
     pub b: u8,

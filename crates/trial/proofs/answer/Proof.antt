@@ -3,13 +3,13 @@ use mathlib.Core.Path.{_≡_}
 use Prim.Native.Nat.{_≤_}
 use borrow.Author.Needs.{needs}
 use lib.ListN.{length}
-use Rattle.trial.specs.Inputs.{Inside}
+use Rattle.calls.specs.Inputs.{InBuffer}
 use Rattle.trial.proofs.answer.Statement.{statement}
 use Rattle.trial.proofs.answer.Tie as tie
 
 abbrev Inv-loop : tie.InvT-loop
 Inv-loop buffer₀ first₀ second₀ records₀ out₀ left₀ len₀ calls₀ buffer first second records out left len calls =
-    Inside left buffer × (len ≤ length out) × (length buffer ≡ length buffer₀) × (length first ≡ length first₀) × (length second ≡ length second₀) × (length records ≡ length records₀) × (length out ≡ length out₀)
+    InBuffer left buffer × (len ≤ length out) × (length buffer ≡ length buffer₀) × (length first ≡ length first₀) × (length second ≡ length second₀) × (length records ≡ length records₀) × (length out ≡ length out₀)
 
 abbrev μ-loop : tie.MeasureT-loop
 μ-loop buffer₀ first₀ second₀ records₀ out₀ left₀ len₀ calls₀ buffer first second records out left len calls =

@@ -1,10 +1,14 @@
 // How a call is written: its byte, then its numbers, then its fields.
-use crate::input::Input;
+use input::Input;
 ghost use mathlib.Core.Path.{_≡_};
+ghost use mathlib.Core.Bool.{true};
 ghost use Prim.Native.Nat.{_+_, _<_, _≤_, _^_};
-ghost use lib.ListN.{length};
-ghost use Rattle.trial.specs.Inputs.{Inside};
-ghost use Rattle.trial.specs.Numbers.{fourAt, eightAt};
+ghost use lib.ListN.{length, take};
+ghost use Rattle.calls.specs.Inputs.{InBuffer, TookSome};
+ghost use Rattle.calls.specs.Numbers.{fourAt, eightAt};
+ghost use Rattle.calls.specs.Calls.{CountBytes, FieldBytes, HeadBytes, NumberBytes, ReadCall, row, shape};
+
+pub mod input;
 
 // What follows the byte of a call: how many numbers, and how many bytes an item of each field has; 0 where the call has no such field. An item is a
 // byte or a record.
@@ -48,7 +52,7 @@ pub struct Call {
 
 // The shape of a call that there is.
 fn row(numbers: usize, first: usize, second: usize) -> Shape
-    ensures { λ r. ⌜ (r .numbers ≡ numbers) × (r .first ≡ first) × (r .second ≡ second) ⌝ }
+    ensures { λ r. ⌜ r ≡ row numbers first second ⌝ }
 {
     Shape {
         known: true,
@@ -60,13 +64,15 @@ fn row(numbers: usize, first: usize, second: usize) -> Shape
 
 // The shape of each call.
 fn shape_of(byte: u8) -> Shape
-    ensures { λ r. ⌜ r .numbers ≤ 3 ⌝ }
+    ensures { λ r. ⌜ (r ≡ shape byte) × (r .numbers ≤ 3) ⌝ }
 {
     match byte {
         b'r' => row(0, 1, 0),
         b'l' => row(0, 1, 1),
         b'e' => row(1, 3, 1),
-        b'o' | b'b' | b'c' => row(1, 1, 1),
+        b'o' => row(1, 1, 1),
+        b'b' => row(1, 1, 1),
+        b'c' => row(1, 1, 1),
         _ => Shape {
             known: false,
             numbers: 0,
@@ -100,11 +106,11 @@ fn eight(b: &[u8], i: usize) -> usize
 
 // Reads k numbers; the others are 0.
 fn read_numbers(buffer: &mut [u8], from: Input, k: usize) -> Numbers
-    requires { ⌜ Inside from (now buffer) × (k ≤ 3) ⌝ }
-    ensures { λ r. ⌜ Inside (r .left) (now (buffer .exit)) ⌝ }
+    requires { ⌜ InBuffer from (now buffer) × (k ≤ 3) ⌝ }
+    ensures { λ r. ⌜ TookSome (NumberBytes k (r .values)) from (now (buffer .entry)) (r .left) (now (buffer .exit)) ⌝ }
 {
     let mut b = [0u8; 24];
-    let left = crate::input::fetch(buffer, from, &mut b, 8 * k);
+    let left = input::fetch(buffer, from, &mut b, 8 * k);
     let values = [eight(&b, 0), eight(&b, 8), eight(&b, 16)];
     Numbers {
         values: values,
@@ -114,16 +120,16 @@ fn read_numbers(buffer: &mut [u8], from: Input, k: usize) -> Numbers
 
 // Reads a length, or a count, of at most `most`.
 fn read_size(buffer: &mut [u8], from: Input, most: usize) -> Size
-    requires { ⌜ Inside from (now buffer) ⌝ }
-    ensures { λ r. ⌜ Inside (r .left) (now (buffer .exit)) × (r .n ≤ most) ⌝ }
+    requires { ⌜ InBuffer from (now buffer) ⌝ }
+    ensures { λ r. ⌜ TookSome (CountBytes (r .n)) from (now (buffer .entry)) (r .left) (now (buffer .exit)) × (r .n ≤ most) ⌝ }
 {
     let mut b = [0u8; 4];
-    let left = crate::input::fetch(buffer, from, &mut b, 4);
+    let left = input::fetch(buffer, from, &mut b, 4);
     let n = four(&b, 0);
     if n > most {
         return Size {
             n: 0,
-            left: crate::input::cut(),
+            left: input::cut(),
         };
     }
     Size { n: n, left: left }
@@ -131,8 +137,8 @@ fn read_size(buffer: &mut [u8], from: Input, most: usize) -> Size
 
 // Reads a field to the front of `to`: how many items of `item` bytes it has, and then those. One for which `to` is too short is cut.
 fn read_field(buffer: &mut [u8], from: Input, item: usize, to: &mut [u8]) -> Size
-    requires { ⌜ Inside from (now buffer) ⌝ }
-    ensures { λ r. ⌜ Inside (r .left) (now (buffer .exit)) × (r .n ≤ length (now (to .entry))) ⌝ }
+    requires { ⌜ InBuffer from (now buffer) ⌝ }
+    ensures { λ r. ⌜ TookSome (FieldBytes item (take (r .n) (now (to .exit)))) from (now (buffer .entry)) (r .left) (now (buffer .exit)) × (r .n ≤ length (now (to .entry))) ⌝ }
 {
     if item == 0 {
         return Size { n: 0, left: from };
@@ -142,24 +148,24 @@ fn read_field(buffer: &mut [u8], from: Input, item: usize, to: &mut [u8]) -> Siz
     let left = s.left;
     Size {
         n: n,
-        left: crate::input::fetch(buffer, left, to, n),
+        left: input::fetch(buffer, left, to, n),
     }
 }
 
 // An unknown call is cut.
 fn only_if(known: bool, from: Input) -> Input
     requires { ⌜ from .at ≤ from .end ⌝ }
-    ensures { λ r. ⌜ (r .at ≤ r .end) × (r .end ≤ from .end) ⌝ }
+    ensures { λ r. ⌜ (r .at ≤ r .end) × (r .end ≤ from .end) × (r .whole ≡ true → (known ≡ true) × (r ≡ from)) ⌝ }
 {
-    if known { from } else { crate::input::cut() }
+    if known { from } else { input::cut() }
 }
 
 // Reads the byte of a call, and its numbers.
 fn read_head(buffer: &mut [u8], from: Input) -> Head
-    requires { ⌜ Inside from (now buffer) ⌝ }
-    ensures { λ r. ⌜ Inside (r .left) (now (buffer .exit)) ⌝ }
+    requires { ⌜ InBuffer from (now buffer) ⌝ }
+    ensures { λ r. ⌜ (r .shape ≡ shape (r .byte)) × (r .left .whole ≡ true → r .begun ≡ true) × TookSome (HeadBytes (r .byte) (r .numbers)) from (now (buffer .entry)) (r .left) (now (buffer .exit)) ⌝ }
 {
-    let b = crate::input::next(buffer, from);
+    let b = input::next(buffer, from);
     let begun = b.left;
     let s = shape_of(b.value);
     let n = read_numbers(buffer, only_if(s.known, begun), s.numbers);
@@ -176,8 +182,8 @@ fn read_head(buffer: &mut [u8], from: Input) -> Head
 
 // Reads a call.
 pub fn read_call(buffer: &mut [u8], from: Input, first: &mut [u8], second: &mut [u8]) -> Call
-    requires { ⌜ Inside from (now buffer) ⌝ }
-    ensures { λ r. ⌜ Inside (r .left) (now (buffer .exit)) × (r .first ≤ length (now (first .entry))) × (r .second ≤ length (now (second .entry))) ⌝ }
+    requires { ⌜ InBuffer from (now buffer) ⌝ }
+    ensures { λ r. ⌜ ReadCall from (now (buffer .entry)) r (now (buffer .exit)) (now (first .exit)) (now (second .exit)) × (r .first ≤ length (now (first .entry))) × (r .second ≤ length (now (second .entry))) ⌝ }
 {
     let h = read_head(buffer, from);
     let s = h.shape;

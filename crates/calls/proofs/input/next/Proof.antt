@@ -2,9 +2,9 @@
 use native.Mathlib.Omega.{arith}
 use borrow.Author.Needs.{needs}
 use borrow.Author.Tests.{not-false}
-use Rattle.trial.proofs.Reading.{took-cut, took-first, took-next}
-use Rattle.trial.proofs.input.next.Statement.{statement}
-use Rattle.trial.proofs.input.next.Tie as tie
+use Rattle.calls.proofs.Reading.{took-cut, took-first, took-next}
+use Rattle.calls.proofs.input.next.Statement.{statement}
+use Rattle.calls.proofs.input.next.Tie as tie
 
 slice-read-t8 : tie.Need-slice-read-t8
 slice-read-t8 c = search needs

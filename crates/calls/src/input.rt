@@ -4,7 +4,7 @@ ghost use mathlib.Core.Bool.{true, false};
 ghost use mathlib.Core.List.{[], _∷_};
 ghost use Prim.Native.Nat.{_≤_};
 ghost use lib.ListN.{length, take};
-ghost use Rattle.trial.specs.Inputs.{Inside, Took};
+ghost use Rattle.calls.specs.Inputs.{InBuffer, Took};
 
 // The bytes of the buffer from `at` up to `end` are still to be read, and then what is still to come. `whole` says that all that was asked for up to here was
 // there; once it was not, nothing more is read.
@@ -51,7 +51,7 @@ fn refill(buffer: &mut [u8]) -> usize
 
 // Reads a byte; where the buffer is used up, it is read anew.
 pub fn next(buffer: &mut [u8], from: Input) -> Byte
-    requires { ⌜ Inside from (now buffer) ⌝ }
+    requires { ⌜ InBuffer from (now buffer) ⌝ }
     ensures { λ r. ⌜ Took from (now (buffer .entry)) (r .value ∷ []) (r .left) (now (buffer .exit)) ⌝ }
 {
     let at = from.at;
@@ -91,7 +91,7 @@ pub fn next(buffer: &mut [u8], from: Input) -> Byte
 
 // Reads n bytes to the front of `to`.
 pub fn fetch(buffer: &mut [u8], from: Input, to: &mut [u8], n: usize) -> Input
-    requires { ⌜ Inside from (now buffer) × (n ≤ length (now to)) ⌝ }
+    requires { ⌜ InBuffer from (now buffer) × (n ≤ length (now to)) ⌝ }
     ensures { λ r. ⌜ Took from (now (buffer .entry)) (take n (now (to .exit))) r (now (buffer .exit)) ⌝ }
 {
     let mut left = from;

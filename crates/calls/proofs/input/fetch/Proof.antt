@@ -6,10 +6,10 @@ use native.Mathlib.Omega.{arith}
 use borrow.Author.Needs.{needs}
 use lib.ListN.{length, length-set, take}
 use lib.Seq.{take-suc-set}
-use Rattle.trial.proofs.Reading.{took-both, took-none}
-use Rattle.trial.specs.Inputs.{Took}
-use Rattle.trial.proofs.input.fetch.Statement.{statement}
-use Rattle.trial.proofs.input.fetch.Tie as tie
+use Rattle.calls.proofs.Reading.{took-both, took-none}
+use Rattle.calls.specs.Inputs.{Took}
+use Rattle.calls.proofs.input.fetch.Statement.{statement}
+use Rattle.calls.proofs.input.fetch.Tie as tie
 
 abbrev Inv-loop : tie.InvT-loop
 Inv-loop buffer₀ to₀ n left₀ i₀ buffer to left i = Took left₀ buffer₀ (take i to) left buffer × (i ≤ n) × (length buffer ≡ length buffer₀) × (length to ≡ length to₀)
