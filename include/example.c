@@ -62,6 +62,7 @@ static int unexpected(const char *what, size_t number)
 int main(void)
 {
     static const koodhaxil_triplet more[] = { { 0, 1, 2 }, { 4, 3, 2 } };
+    static const char whole[] = "((3:1,(5:0.5,4:0.5):0.5):2, (1:0.2,0:0.2):2.8);", cut[] = "((0,1),(3,(4,5";
     uint8_t table[KOODHAXIL_TABLE(N)], before[KOODHAXIL_TABLE(N)];
     uint8_t tree[KOODHAXIL_ROOM(N)], again[KOODHAXIL_ROOM(N)];
     size_t values[KOODHAXIL_VALUES];
@@ -100,6 +101,17 @@ int main(void)
     number = koodhaxil_check(N, table, sizeof table, again, 2 * nodes, values, KOODHAXIL_VALUES);
     if (number != KOODHAXIL_DONE) return unexpected("checking", number);
     printf("check of that tree: passed\n");
+
+    /* An author's text of the second paper's tree, with lengths; and one that ends early. */
+    number = koodhaxil_parse(N, (const uint8_t *)whole, strlen(whole), again, sizeof again, values, KOODHAXIL_VALUES);
+    if (number != KOODHAXIL_DONE) return unexpected("reading a text", number);
+    nodes = values[0];
+    printf("%s is read: ", whole);
+    print_tree(again, nodes, 0);
+    printf(", %zu nodes\n", nodes);
+    number = koodhaxil_parse(N, (const uint8_t *)cut, strlen(cut), again, sizeof again, values, KOODHAXIL_VALUES);
+    if (number != KOODHAXIL_BAD_TEXT) return unexpected("reading a text", number);
+    printf("%s is refused with %zu at byte %zu\n", cut, number, values[0]);
 
     /* A refusal leaves the table as it was: the last byte of the second paper's tree, number 1, is missing. */
     memcpy(before, table, sizeof table);

@@ -22,6 +22,10 @@
  *
  * House order: nodes in preorder, children by their lowest species.
  *
+ * A Newick text writes a tree: a species is its number in decimal, and a node with children is a bracket with these between commas, as in
+ * ((0,1),2); A length (a colon, digits, perhaps a point and digits) may stand behind each subtree, and is thrown away. docs/NEWICK.md has the form
+ * in full, and for many texts what becomes of them.
+ *
  *
  * HOW SLICES ARE PASSED
  *
@@ -49,8 +53,8 @@
  * answer, and 0 places are allowed. Where several refusals apply, the answer is the first one in the order that stands at the function.
  * koodhaxil_triple is no operation but a question, answered 1 for yes and 0 for no.
  *
- * A refusal changes no byte of a table or a room. On 0, listing and entering fill the whole table, whatever it held; house order and building write a
- * body to the front of the room and change nothing behind it.
+ * A refusal changes no byte of a table or a room. On 0, listing and entering fill the whole table, whatever it held; house order, building
+ * and reading a text write a body to the front of the room and change nothing behind it.
  */
 #ifndef KOODHAXIL_H
 #define KOODHAXIL_H
@@ -65,7 +69,7 @@ extern "C" {
 /* The numbers, and behind each one what is laid into `values`. A tree number is 0 where there is only one body. */
 enum koodhaxil_number {
     KOODHAXIL_DONE = 0,          /* done                                               read, list: n, tree count; enter: n; */
-                                 /*                                                    order, build: node count; check: nothing */
+                                 /*                                                    order, build, parse: node count; check: nothing */
     KOODHAXIL_BAD_VERSION = 1,   /* the version byte is not 1                          nothing */
     KOODHAXIL_BAD_COUNTS = 2,    /* n is 0 or over 64, or there are over 16 trees      nothing */
     KOODHAXIL_ENDS_EARLY = 3,    /* the bytes end early                                tree number, 0 for the header */
@@ -78,7 +82,8 @@ enum koodhaxil_number {
     KOODHAXIL_NO_TREE = 10,      /* no tree holds every entered triplet                the set that stops: bit i for species i */
     KOODHAXIL_CONTRADICTED = 11, /* an entered triplet contradicts the tree            triple index, table byte */
     KOODHAXIL_UNFORCED = 12,     /* a triplet of the tree is not forced                triple index */
-    KOODHAXIL_BAD_RECORD = 13    /* a record repeats a species or has one not below n  the first such record */
+    KOODHAXIL_BAD_RECORD = 13,   /* a record repeats a species or has one not below n  the first such record */
+    KOODHAXIL_BAD_TEXT = 14      /* no Newick text, or over a limit                    byte place */
 };
 
 /* The faults of refusal 6, and what each one carries. */
@@ -98,6 +103,12 @@ enum koodhaxil_fault {
 #define KOODHAXIL_MOST_BODY 254
 #define KOODHAXIL_MOST_COLLECTION 4099
 #define KOODHAXIL_MOST_TABLE 41664
+
+/* The longest Newick text that is read, and in it the most brackets that are open at a time, nodes, and the largest species number. */
+#define KOODHAXIL_MOST_TEXT 4096
+#define KOODHAXIL_MOST_OPEN 63
+#define KOODHAXIL_MOST_NODES 127
+#define KOODHAXIL_LARGEST_SPECIES 254
 
 /* Places of `values` for the longest answer. */
 #define KOODHAXIL_VALUES 4
@@ -163,6 +174,16 @@ size_t koodhaxil_build(size_t n, const uint8_t *table, size_t table_length, uint
  * Refusals: 2, 7, 8, 5, 6, 11, 12.
  */
 size_t koodhaxil_check(size_t n, const uint8_t *table, size_t table_length, const uint8_t *body, size_t body_length, size_t *values,
+                       size_t values_length);
+
+/*
+ * Reads a Newick text into a body, at the front of the room, which is as long as the body or longer: KOODHAXIL_MOST_BODY bytes are always enough. The
+ * nodes are in the text's order. 14 names the earliest of these places, counted in bytes from 0: the first byte that no text of this form has there,
+ * the text's length where it ends early, the opening bracket one too deep, the first sign of a node too many, and the digit that takes a number past
+ * 254; and KOODHAXIL_MOST_TEXT, before all of them, for a text that is longer than that.
+ * Refusals: 2, 14, 6, 9.
+ */
+size_t koodhaxil_parse(size_t n, const uint8_t *text, size_t text_length, uint8_t *room, size_t room_length, size_t *values,
                        size_t values_length);
 
 /*

@@ -6,7 +6,7 @@ mod clock;
 mod shapes;
 mod twin;
 
-use shapes::{body, candidates, collection, shuffle, shuffled, triples, Candidate, Dice, Shape, SEED, SHAPES};
+use shapes::{body, candidates, collection, shuffle, shuffled, text, triples, Candidate, Dice, Shape, SEED, SHAPES};
 use std::hint::black_box;
 use std::time::Duration;
 
@@ -20,7 +20,8 @@ const CHECK_GUIDES: [f64; 4] = [10.0, 20.0, 10.0, 50.0];
 const ROUNDS: usize = 61;
 const SAMPLE: Duration = Duration::from_micros(1_000);
 
-// The operations of one side, the library or the twin. Putting in house order and building go from n and a body or a table to a body.
+// The operations of one side, the library or the twin. Putting in house order, building and reading a text go from n and a body, a table or a text
+// to a body.
 struct Side {
     read: fn(&[u8], &mut [usize]) -> usize,
     list: fn(&[u8], &mut [u8], &mut [usize]) -> usize,
@@ -28,6 +29,7 @@ struct Side {
     order: fn(usize, &[u8], &mut [u8], &mut [usize]) -> usize,
     build: fn(usize, &[u8], &mut [u8], &mut [usize]) -> usize,
     check: fn(usize, &[u8], &[u8], &mut [usize]) -> usize,
+    parse: fn(usize, &[u8], &mut [u8], &mut [usize]) -> usize,
 }
 
 const LIBRARY: Side = Side {
@@ -37,14 +39,24 @@ const LIBRARY: Side = Side {
     order: boundary::order,
     build: boundary::build,
     check: boundary::check,
+    parse: boundary::parse,
 };
 
-const TWIN: Side = Side { read: twin::read, list: twin::list, enter: twin::enter, order: twin::order, build: twin::build, check: twin::check };
+const TWIN: Side = Side {
+    read: twin::read,
+    list: twin::list,
+    enter: twin::enter,
+    order: twin::order,
+    build: twin::build,
+    check: twin::check,
+    parse: twin::parse,
+};
 
-// A tree of 64 species, the table of its triplets, these triplets as records, and the collections of the tree once and 16 times.
+// A tree of 64 species, its text, the table of its triplets, these triplets as records, and the collections of the tree once and 16 times.
 struct Run {
     name: &'static str,
     tree: Vec<u8>,
+    text: Vec<u8>,
     table: Vec<u8>,
     records: Vec<[u8; 3]>,
     one: Vec<u8>,
@@ -83,7 +95,7 @@ fn run(shape: Shape) -> Run {
     let mut table = vec![0; TABLE];
     twin::list(&one, &mut table, &mut []);
     let records = records(shape, &table, &mut dice);
-    Run { name, tree, table, records, one, sixteen }
+    Run { name, text: text(&tree), tree, table, records, one, sixteen }
 }
 
 // ---- answers
@@ -96,16 +108,20 @@ fn told(lent: usize, call: impl FnOnce(&mut [u8], &mut [usize]) -> usize) -> Tol
     (call(&mut lent, &mut values), values, lent)
 }
 
-// What one side tells of a run. Every table that is filled has to be the run's own, and the tree built from it the tree in house order.
+// What one side tells of a run. Every table that is filled has to be the run's own, and the tree built from it the tree in house order; so has
+// the body read from the text, once it is put in house order.
 fn answers(side: &Side, run: &Run) -> Option<Vec<Told>> {
     let reads = [&run.one, &run.sixteen].map(|bytes| told(0, |_, values| (side.read)(bytes, values)));
     let lists = [&run.one, &run.sixteen].map(|bytes| told(TABLE, |table, values| (side.list)(bytes, table, values)));
     let entered = told(TABLE, |table, values| (side.enter)(N, &run.records, table, values));
     let ordered = told(BODY, |room, values| (side.order)(N, &run.tree, room, values));
     let built = told(BODY, |room, values| (side.build)(N, &run.table, room, values));
+    let parsed = told(BODY, |room, values| (side.parse)(N, &run.text, room, values));
+    let body = parsed.2.get(..2 * parsed.1[0]).unwrap_or_default();
+    let housed = told(BODY, |room, values| (side.order)(N, body, room, values));
     let filled = lists.iter().chain([&entered]).all(|(_, _, table)| *table == run.table);
-    let same = ordered == built;
-    let all: Vec<Told> = reads.into_iter().chain(lists).chain([entered, ordered, built]).collect();
+    let same = ordered == built && ordered == housed;
+    let all: Vec<Told> = reads.into_iter().chain(lists).chain([entered, ordered, built, parsed]).collect();
     (filled && same && all.iter().all(|(number, ..)| *number == 0)).then_some(all)
 }
 
@@ -251,6 +267,11 @@ fn building<'a>(side: &Side, table: &'a [u8]) -> impl FnMut() + 'a {
     filling(BODY, move |room, values| build(N, black_box(table), room, values))
 }
 
+fn parsing<'a>(side: &Side, text: &'a [u8]) -> impl FnMut() + 'a {
+    let parse = side.parse;
+    filling(BODY, move |room, values| parse(N, black_box(text), room, values))
+}
+
 fn checking<'a>(side: &Side, candidate: &'a Candidate) -> impl FnMut() + 'a {
     let check = side.check;
     let mut values = [0; 4];
@@ -290,6 +311,9 @@ fn main() {
     }
     for (candidate, guide) in candidates.iter().zip(CHECK_GUIDES) {
         table.guided("check", candidate.name, TWIN_LIMIT, |side| checking(side, candidate), Some(guide));
+    }
+    for run in &runs {
+        table.twins("parse", &format!("{}, a text of {} bytes", run.name, run.text.len()), TWIN_LIMIT, |side| parsing(side, &run.text));
     }
     println!();
     println!("bench: {}", if table.met { "every limit is met" } else { "a limit is NOT MET" });

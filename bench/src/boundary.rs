@@ -22,6 +22,8 @@ extern "C" {
 
     fn koodhaxil_check(n: usize, t: *const u8, t_len: usize, body: *const u8, body_len: usize, values: *mut usize, values_len: usize) -> usize;
 
+    fn koodhaxil_parse(n: usize, text: *const u8, text_len: usize, room: *mut u8, room_len: usize, values: *mut usize, values_len: usize) -> usize;
+
     fn koodhaxil_triple(index: usize, values: *mut usize, values_len: usize) -> usize;
 }
 
@@ -59,6 +61,12 @@ pub fn build(n: usize, t: &[u8], room: &mut [u8], values: &mut [usize]) -> usize
 pub fn check(n: usize, t: &[u8], body: &[u8], values: &mut [usize]) -> usize {
     // SAFETY: as above.
     unsafe { koodhaxil_check(n, t.as_ptr(), t.len(), body.as_ptr(), body.len(), values.as_mut_ptr(), values.len()) }
+}
+
+/// Reads a Newick text over `n` species as a body, into the front of `room`: the number and the values as for `read`.
+pub fn parse(n: usize, text: &[u8], room: &mut [u8], values: &mut [usize]) -> usize {
+    // SAFETY: as above.
+    unsafe { koodhaxil_parse(n, text.as_ptr(), text.len(), room.as_mut_ptr(), room.len(), values.as_mut_ptr(), values.len()) }
 }
 
 /// Is there a triple with this index? 1 with its three species laid into `values`, or 0.

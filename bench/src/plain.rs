@@ -27,7 +27,7 @@ fn refused(refusal: Refusal) -> Told {
             };
             vec![tree, node, kind, carried]
         }
-        Refusal::TableByte { place } => vec![place],
+        Refusal::TableByte { place } | Refusal::Text { place } => vec![place],
         Refusal::NoTree { set } => vec![set as usize],
         Refusal::Contradicted { triple, byte } => vec![triple, byte as usize],
         Refusal::NotForced { triple } => vec![triple],
@@ -82,6 +82,12 @@ pub fn order(n: usize, body: &[u8], room: usize) -> (Told, Option<Vec<u8>>) {
 pub fn build(n: usize, table: &[u8], room: usize) -> (Told, Option<Vec<u8>>) {
     let mut room = vec![0; room];
     written(operations::build(n as u64, table, &mut room), room)
+}
+
+/// What reading a Newick text over `n` species tells, with `room` bytes to write to, and what is written to their front.
+pub fn parse(n: usize, text: &[u8], room: usize) -> (Told, Option<Vec<u8>>) {
+    let mut room = vec![0; room];
+    written(operations::parse(n as u64, text, &mut room), room)
 }
 
 /// What checking a body against a table over `n` species tells.

@@ -1,4 +1,4 @@
-// Collections and candidates to run on. What is random comes from a fixed seed, so every run has the same ones.
+// Collections, candidates and texts to run on. What is random comes from a fixed seed, so every run has the same ones.
 
 pub const SEED: u64 = 20_071;
 
@@ -88,6 +88,20 @@ pub fn joined(children: &[Vec<u8>]) -> Vec<u8> {
         }
     }
     body
+}
+
+/// The Newick text of a body, a length after each subtree; children stand in the order of their nodes.
+pub fn text(body: &[u8]) -> Vec<u8> {
+    fn subtree(body: &[u8], node: usize) -> String {
+        let species = body[2 * node + 1];
+        if species != 255 {
+            return format!("{species}:12.5");
+        }
+        let children = (1..body.len() / 2).filter(|&child| body[2 * child] as usize == node);
+        let inside: Vec<String> = children.map(|child| subtree(body, child)).collect();
+        format!("({}):3.25", inside.join(","))
+    }
+    format!("{};", subtree(body, 0)).into_bytes()
 }
 
 /// A candidate of 64 species and a table to check it against, with the number and the values of the answer.

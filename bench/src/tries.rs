@@ -1,6 +1,6 @@
-// Tries the library on good and bad input. The answers of the fixed list are written out by hand from document 01; those of the random collections,
-// lists of records, bodies, tables and candidates, of all small candidates, and of all indices, come from the second program (`second/`). What a call
-// must leave alone holds a pattern before it, and is compared after it.
+// Tries the library on good and bad input. The answers of the fixed list are written out by hand from documents 01 and 02; those of the random
+// collections, lists of records, bodies, tables, candidates and texts, of all small candidates, and of all indices, come from the second program
+// (`second/`). What a call must leave alone holds a pattern before it, and is compared after it.
 
 mod boundary;
 mod plain;
@@ -11,8 +11,20 @@ mod shapes;
 #[path = "../../second/src/entered.rs"]
 mod entered;
 #[allow(dead_code)]
+#[path = "../../second/src/grammar.rs"]
+mod grammar;
+#[path = "../../second/src/limits.rs"]
+mod limits;
+#[path = "../../second/src/newick.rs"]
+mod newick;
+#[allow(dead_code)]
 #[path = "../../second/src/operations.rs"]
 mod operations;
+#[allow(dead_code)]
+#[path = "../../second/src/random.rs"]
+mod random;
+#[path = "../../second/src/texts.rs"]
+mod texts;
 #[allow(dead_code)]
 #[path = "../../second/src/trees.rs"]
 mod trees;
@@ -21,9 +33,11 @@ mod trees;
 mod triples;
 
 use plain::Told;
-use shapes::{body, candidates, collection, joined, shuffled, Dice, Shape, SEED, SHAPES};
+use random::Random;
+use shapes::{body, candidates, collection, joined, shuffled, text, Dice, Shape, SEED, SHAPES};
 use std::fmt::Debug;
 use std::hint::black_box;
+use trees::Tree;
 
 const COLLECTIONS: usize = 100_000;
 const LISTS: usize = 20_000;
@@ -31,6 +45,8 @@ const BODIES: usize = 50_000;
 const TABLES: usize = 50_000;
 const TREES: usize = 5_000;
 const CANDIDATES: usize = 30_000;
+const TEXTS: usize = 50_000;
+const NUMBERS: usize = 15;
 const MOST_VALUES: usize = 6;
 const SHOWN: usize = 3;
 
@@ -44,6 +60,7 @@ enum Call<'a> {
     Build(usize, &'a [u8], usize),
     // A table and a body, which are only read.
     Check(usize, &'a [u8], &'a [u8]),
+    Parse(usize, &'a [u8], usize),
     // An index; its answer, yes or no, is the number.
     Triple(usize),
 }
@@ -68,7 +85,7 @@ impl Tally {
     fn call(&mut self, name: &str, call: Call, places: usize, told: &Told, filled: Option<&[u8]>) {
         let room = match call {
             Call::Read(_) | Call::Check(..) | Call::Triple(_) => 0,
-            Call::List(_, room) | Call::Enter(_, _, room) | Call::Order(_, _, room) | Call::Build(_, _, room) => room,
+            Call::List(_, room) | Call::Enter(_, _, room) | Call::Order(_, _, room) | Call::Build(_, _, room) | Call::Parse(_, _, room) => room,
         };
         let mut values: Vec<usize> = (0..places).map(|i| 9_000_000_000 + i).collect();
         let mut lent: Vec<u8> = (0..room).map(|i| (i % 251) as u8 ^ 0xa5).collect();
@@ -89,6 +106,7 @@ impl Tally {
             Call::Order(n, body, _) => boundary::order(n, body, &mut lent, &mut values),
             Call::Build(n, table, _) => boundary::build(n, table, &mut lent, &mut values),
             Call::Check(n, table, _) => boundary::check(n, &lent[..table.len()], &lent[table.len()..], &mut values),
+            Call::Parse(n, text, _) => boundary::parse(n, text, &mut lent, &mut values),
             Call::Triple(index) => boundary::triple(index, &mut values),
         };
         // The compiler would take it that what is only read stays as it was.
@@ -152,6 +170,19 @@ impl Tally {
         self.calls(name, Call::Check(n, table, body), number, values, None);
     }
 
+    fn parsed(&mut self, n: usize, text: &str, body: &[u8]) {
+        for more in [0, 1, 2, 300] {
+            self.calls(text, Call::Parse(n, text.as_bytes(), body.len() + more), 0, &[body.len() / 2], Some(body));
+        }
+    }
+
+    // A text that is refused whatever the room.
+    fn text_refused(&mut self, n: usize, text: &[u8], number: usize, values: &[usize]) {
+        for room in [0, 2, 300] {
+            self.calls("a text", Call::Parse(n, text, room), number, values, None);
+        }
+    }
+
     fn end_part(&mut self, what: &str) {
         println!("{what}: {} cases", self.part);
         self.part = 0;
@@ -161,7 +192,7 @@ impl Tally {
 // How often each number was the answer, and of 6 each fault.
 #[derive(Default)]
 struct Answers {
-    numbers: [usize; 14],
+    numbers: [usize; NUMBERS],
     faults: [usize; 5],
 }
 
@@ -174,7 +205,7 @@ impl Answers {
     }
 
     fn show(&self, operation: &str) {
-        let given: Vec<String> = (0..14).filter(|&i| self.numbers[i] > 0).map(|i| format!("{i}: {}", self.numbers[i])).collect();
+        let given: Vec<String> = (0..NUMBERS).filter(|&i| self.numbers[i] > 0).map(|i| format!("{i}: {}", self.numbers[i])).collect();
         let faults = if self.numbers[6] > 0 { format!("; of 6, faults 1 to 4: {:?}", &self.faults[1..]) } else { String::new() };
         println!("  {operation} answered {}{faults}", given.join(", "));
     }
@@ -194,6 +225,7 @@ fn show(name: &str, call: Call, places: usize, wanted: &Outcome, got: &Outcome) 
         Call::Order(n, body, room) => (format!("order, n {n}, room of {room} bytes"), body.len(), start(body)),
         Call::Build(n, table, room) => (format!("build, n {n}, room of {room} bytes"), table.len(), start(table)),
         Call::Check(n, table, body) => (format!("check, n {n}, body {}", start(body)), table.len(), start(table)),
+        Call::Parse(n, text, room) => (format!("parse, n {n}, room of {room} bytes"), text.len(), format!("{:?}", String::from_utf8_lossy(text))),
         Call::Triple(index) => (format!("triple, index {index}"), 0, String::new()),
     };
     println!("  call: {what}, {places} places for values");
@@ -843,6 +875,115 @@ fn candidates_of_64(tally: &mut Tally) {
     tally.end_part("candidates of 64 species checked, answers written out");
 }
 
+fn texts_refused(tally: &mut Tally) {
+    // A bad text, one that is too long, one of a broken tree and a good one: n comes first.
+    let over = "x".repeat(4_097);
+    for n in BAD_COUNTS {
+        for text in ["", "(0,1", &over, "(0);", "((0,1),2);"] {
+            tally.text_refused(n, text.as_bytes(), 2, &[]);
+        }
+    }
+    let places = [
+        ("", 0),
+        (";", 0),
+        ("(0,1", 4),
+        ("(0,1)", 5),
+        ("(0,1);x", 6),
+        ("(0,1);;", 6),
+        ("(0,1));", 5),
+        ("(0,1;", 4),
+        ("0,1;", 1),
+        ("()", 1),
+        ("(0,,1);", 3),
+        ("(,0);", 1),
+        ("(0,);", 3),
+        ("(0(1));", 2),
+        ("00;", 1),
+        ("01;", 1),
+        ("0 1;", 2),
+        ("(0:,1);", 3),
+        ("0:.5;", 2),
+        ("0:1.;", 4),
+        ("0:1 .5;", 4),
+        ("0:1. 5;", 4),
+        ("0:1:2;", 3),
+        ("0:1.5.5;", 5),
+        ("0:-1;", 2),
+        ("0:1e5;", 3),
+        ("(0,1)2;", 5),
+        ("(0,1)a;", 5),
+        ("('0',1);", 1),
+        ("0\t;", 1),
+        ("\00;", 0),
+        ("255;", 2),
+        ("2540;", 3),
+        ("25 5;", 3),
+    ];
+    for (text, place) in places {
+        for n in [1, 4, 64] {
+            tally.text_refused(n, text.as_bytes(), 14, &[place]);
+        }
+    }
+    // n, a text of a broken tree; then node, fault and what the fault carries, as for bodies.
+    let broken = [
+        (6, "(5);", [0, 4, 0]),
+        (4, "(5);", [0, 4, 0]),
+        (1, "1;", [0, 2, 1]),
+        (64, "64;", [0, 2, 64]),
+        (64, "254:9;", [0, 2, 254]),
+        (4, "(0,1,200);", [3, 2, 200]),
+        (4, "(0,1,0);", [3, 3, 1]),
+        (4, "((0,1),(2,1));", [6, 3, 3]),
+        (4, "(4,(1));", [1, 2, 4]),
+        (4, "((1),4);", [1, 4, 0]),
+        (4, "(1,(1));", [2, 4, 0]),
+        (4, "(0,((1)));", [2, 4, 0]),
+    ];
+    for (n, text, [node, fault, carried]) in broken {
+        tally.text_refused(n, text.as_bytes(), 6, &[0, node, fault, carried]);
+    }
+    for (text, rooms) in [("0;", &[0, 1][..]), ("(0,1);", &[0, 2, 5]), ("((0,1),2);", &[0, 8, 9]), (&limits::ladder(63), &[0, 252, 253])] {
+        for &room in rooms {
+            tally.calls("room too short for a text", Call::Parse(64, text.as_bytes(), room), 9, &[], None);
+        }
+    }
+    tally.end_part("texts, refused");
+}
+
+fn texts_parsed(tally: &mut Tally) {
+    for text in ["0;", "0:1;", "0: 1;", "0:003;", "0:0.50;", "0 :1 ;", " \n\r0;\r\n ", "0:18446744073709551616;"] {
+        tally.parsed(1, text, &[255, 0]);
+    }
+    tally.parsed(64, "63;", &[255, 63]);
+    tally.parsed(3, "((0,1),2);", &CLOSE);
+    tally.parsed(3, "(0,(1,2));", &HIGH);
+    tally.parsed(3, "(0,1,2);", &FAN);
+    tally.parsed(4, "(((0,1),2),3);", &LADDER);
+    tally.parsed(4, "(((0:1,1:2.5):3,2:4):5.0,3:6):7;", &LADDER);
+    tally.parsed(4, " ( ( ( 0 , 1 ) , 2 )\n:\r5 , 3 ) ; ", &LADDER);
+    tally.parsed(6, "((0,1),2,(3,(4,5)));", &SIX);
+    // the text's order, and not house order
+    tally.parsed(3, "(2,1,0);", &[255, 255, 0, 2, 0, 1, 0, 0]);
+    tally.parsed(4, "(3,(2,(1,0)));", &[255, 255, 0, 3, 0, 255, 2, 2, 2, 255, 4, 1, 4, 0]);
+    tally.parsed(64, &limits::ladder(63), &nested_house());
+    let all: Vec<u8> = (0..64).collect();
+    for shape in [Shape::Nested, Shape::Balanced] {
+        let body = body(shape, &all, &mut Dice(SEED));
+        tally.parsed(64, &String::from_utf8_lossy(&text(&body)), &body);
+    }
+    tally.end_part("texts, bodies written out");
+
+    // Where the place is not known by the way the text is made, the second program says the answer.
+    for (text, place) in limits::cases() {
+        let (told, body) = match place {
+            Some(place) => (Told { number: 14, values: vec![place] }, None),
+            None => plain::parse(64, &text, 260),
+        };
+        tally.call("a text at a limit", Call::Parse(64, &text, 260), MOST_VALUES, &told, body.as_deref());
+    }
+    tally.end_part("texts at the limits");
+}
+
 // All ways to split the species into parts.
 fn splits(species: &[u8]) -> Vec<Vec<Vec<u8>>> {
     let Some((&last, others)) = species.split_last() else { return vec![vec![]] };
@@ -1261,6 +1402,42 @@ fn random_candidates(tally: &mut Tally) {
     tally.end_part(&format!("{CANDIDATES} random candidates, seed {SEED}, against the second program"));
 }
 
+fn random_texts(tally: &mut Tally) {
+    let (mut dice, mut random) = (Dice(SEED), Random::new(SEED));
+    let mut answers = Answers::default();
+    for _ in 0..TEXTS {
+        let mut n = random_n(&mut dice);
+        let mut tree = Tree::from_body(&random_body(n, false, &mut dice));
+        let mut kind = "good";
+        if dice.below(20) == 0 {
+            (tree, kind) = (texts::large(&mut random), "about as large as may be");
+        }
+        if dice.below(4) == 0 {
+            (tree, kind) = (texts::wild(&tree, n, &mut random), "rules broken");
+        }
+        let mut text = texts::written(&tree, &mut random);
+        if dice.below(50) == 0 {
+            texts::stretch(&mut text, &mut random);
+            kind = "about as long as may be";
+        }
+        texts::read_again(&tree, &text);
+        if dice.below(3) == 0 {
+            texts::damage(&mut text, &mut random);
+            kind = "damaged";
+        }
+        if dice.below(20) == 0 {
+            n = another_n(n, &mut dice);
+            kind = "another n";
+        }
+        let room = random_body_room(tree.preorder().len(), &mut dice);
+        let (told, body) = plain::parse(n, &text, room);
+        answers.count(&told);
+        tally.call(kind, Call::Parse(n, &text, room), dice.below(MOST_VALUES + 1), &told, body.as_deref());
+    }
+    answers.show("reading a text");
+    tally.end_part(&format!("{TEXTS} random texts, seed {SEED}, against the second program"));
+}
+
 // Each index of 64 species, counted by the loop over all triples, and some beyond. 65 species would have 43,680 triples.
 fn indices(tally: &mut Tally) {
     let mut index = 0;
@@ -1300,6 +1477,9 @@ fn main() {
     small_candidates(&mut tally);
     parts_of_own_tables(&mut tally);
     random_candidates(&mut tally);
+    texts_refused(&mut tally);
+    texts_parsed(&mut tally);
+    random_texts(&mut tally);
     indices(&mut tally);
     println!("tries: {} cases, {} differ", tally.cases, tally.differ);
     if tally.differ > 0 {

@@ -3,6 +3,9 @@
 const WIDTH: usize = 2;
 const MOST_NODES: usize = 127;
 const NONE: u8 = 255;
+const MOST_BYTES: usize = 4096;
+const MOST_OPEN: usize = 63;
+const MOST_SPECIES: usize = 254;
 
 enum Fault {
     BadParent(u8),
@@ -35,6 +38,7 @@ enum Answer {
     Contradicted { index: usize, byte: u8 },
     Unforced(usize),
     BadRecord(usize),
+    BadText(usize),
 }
 
 fn bad_count(n: usize) -> bool {
@@ -864,6 +868,151 @@ fn check_answer(n: usize, t: &[u8], body: &[u8]) -> Answer {
     }
 }
 
+// ---- Newick text
+
+// The first place from `at` on without a blank.
+fn skip(text: &[u8], at: usize) -> usize {
+    let mut i = at;
+    while i < text.len() && (text[i] == b' ' || text[i] == 10 || text[i] == 13) {
+        i += 1;
+    }
+    i
+}
+
+fn stands(text: &[u8], at: usize, sign: u8) -> bool {
+    at < text.len() && text[at] == sign
+}
+
+fn digit(c: u8) -> bool {
+    b'0' <= c && c <= b'9'
+}
+
+// The first place from `at` on without a digit.
+fn digits(text: &[u8], at: usize) -> usize {
+    let mut i = at;
+    while i < text.len() && digit(text[i]) {
+        i += 1;
+    }
+    i
+}
+
+// The species number that begins at a digit, and where it ends; or the digit that it cannot have.
+fn number(text: &[u8], at: usize) -> Result<(u8, usize), usize> {
+    let mut s = (text[at] - b'0') as usize;
+    let mut i = at + 1;
+    while i < text.len() && digit(text[i]) {
+        let longer = 10 * s + (text[i] - b'0') as usize;
+        if s == 0 || longer > MOST_SPECIES {
+            return Err(i);
+        }
+        s = longer;
+        i += 1;
+    }
+    Ok((s as u8, i))
+}
+
+// Where a length ends that may stand behind a subtree.
+fn length(text: &[u8], at: usize) -> Result<usize, usize> {
+    let colon = skip(text, at);
+    if !stands(text, colon, b':') {
+        return Ok(colon);
+    }
+    let from = skip(text, colon + 1);
+    let end = digits(text, from);
+    if end == from {
+        return Err(from);
+    }
+    if !stands(text, end, b'.') {
+        return Ok(end);
+    }
+    let last = digits(text, end + 1);
+    if last == end + 1 {
+        return Err(last);
+    }
+    Ok(last)
+}
+
+// Where reading has come to, and the next node's number.
+struct Reached {
+    at: usize,
+    next: usize,
+}
+
+// Reads a subtree under a parent, with so many brackets open.
+fn subtree(text: &[u8], from: usize, open: usize, parent: u8, node: usize, draft: &mut [u8; 254]) -> Result<Reached, usize> {
+    let at = skip(text, from);
+    if at == text.len() {
+        return Err(at);
+    }
+    let c = text[at];
+    let bracket = c == b'(';
+    if !bracket && !digit(c) || bracket && open == MOST_OPEN || node == MOST_NODES {
+        return Err(at);
+    }
+    let Reached { at, next } = if bracket {
+        put_node(draft, node, parent, NONE);
+        subtrees(text, at + 1, open + 1, node, draft)?
+    } else {
+        let (s, end) = number(text, at)?;
+        put_node(draft, node, parent, s);
+        Reached { at: end, next: node + 1 }
+    };
+    let at = length(text, at)?;
+    Ok(Reached { at, next })
+}
+
+// Reads the subtrees of a bracket that stands as a node, and the sign that closes it.
+fn subtrees(text: &[u8], from: usize, open: usize, node: usize, draft: &mut [u8; 254]) -> Result<Reached, usize> {
+    let mut reached = subtree(text, from, open, node as u8, node + 1, draft)?;
+    loop {
+        let at = skip(text, reached.at);
+        if stands(text, at, b')') {
+            return Ok(Reached { at: at + 1, next: reached.next });
+        }
+        if !stands(text, at, b',') {
+            return Err(at);
+        }
+        reached = subtree(text, at + 1, open, node as u8, reached.next, draft)?;
+    }
+}
+
+// The number of nodes, or the byte place.
+fn whole(text: &[u8], draft: &mut [u8; 254]) -> Result<usize, usize> {
+    if text.len() > MOST_BYTES {
+        return Err(MOST_BYTES);
+    }
+    let reached = subtree(text, 0, 0, NONE, 0, draft)?;
+    let end = skip(text, reached.at);
+    if !stands(text, end, b';') {
+        return Err(end);
+    }
+    let last = skip(text, end + 1);
+    if last < text.len() {
+        return Err(last);
+    }
+    Ok(reached.next)
+}
+
+fn parse_answer(n: usize, text: &[u8], out: &mut [u8]) -> Answer {
+    if bad_count(n) {
+        return Answer::BadCounts;
+    }
+    let mut draft = [0; 254];
+    let nodes = match whole(text, &mut draft) {
+        Ok(nodes) => nodes,
+        Err(place) => return Answer::BadText(place),
+    };
+    let body = &draft[..WIDTH * nodes];
+    if let Some(x) = first_fault(0, n, body) {
+        return Answer::BadTree(x);
+    }
+    if out.len() < body.len() {
+        return Answer::ShortRoom;
+    }
+    out[..body.len()].copy_from_slice(body);
+    Answer::Written(nodes)
+}
+
 // ---- numbers handed back
 
 // Lays `given` into `values` from place 0 on, as far as there is room.
@@ -934,6 +1083,10 @@ fn hand_back(answer: Answer, values: &mut [usize]) -> usize {
             lay(values, &[i]);
             13
         }
+        Answer::BadText(place) => {
+            lay(values, &[place]);
+            14
+        }
     }
 }
 
@@ -959,4 +1112,8 @@ pub fn build(n: usize, t: &[u8], out: &mut [u8], values: &mut [usize]) -> usize 
 
 pub fn check(n: usize, t: &[u8], body: &[u8], values: &mut [usize]) -> usize {
     hand_back(check_answer(n, t, body), values)
+}
+
+pub fn parse(n: usize, text: &[u8], out: &mut [u8], values: &mut [usize]) -> usize {
+    hand_back(parse_answer(n, text, out), values)
 }

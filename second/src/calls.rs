@@ -2,7 +2,7 @@
 
 use std::fmt::Write;
 
-use crate::operations::{build, check, enter, list, order, read, Refusal};
+use crate::operations::{build, check, enter, list, order, parse, read, Refusal};
 use crate::trees::Fault;
 
 /// The longest slice, in bytes, and the longest list of records that a call may hand over.
@@ -17,6 +17,7 @@ pub enum Call {
     Order { n: u64, body: Vec<u8>, room: Vec<u8> },
     Build { n: u64, table: Vec<u8>, room: Vec<u8> },
     Check { n: u64, table: Vec<u8>, body: Vec<u8> },
+    Parse { n: u64, text: Vec<u8>, room: Vec<u8> },
 }
 
 /// The answer to a call: its number, the word of its fault where there is one, and its line
@@ -37,6 +38,7 @@ impl Call {
             Call::Order { .. } => 'o',
             Call::Build { .. } => 'b',
             Call::Check { .. } => 'c',
+            Call::Parse { .. } => 'n',
         }
     }
 
@@ -62,7 +64,8 @@ impl Call {
             }
             Call::Order { n, body: one, room: two }
             | Call::Build { n, table: one, room: two }
-            | Call::Check { n, table: one, body: two } => {
+            | Call::Check { n, table: one, body: two }
+            | Call::Parse { n, text: one, room: two } => {
                 out.extend(n.to_be_bytes());
                 put_slice(out, one);
                 put_slice(out, two);
@@ -106,6 +109,11 @@ impl Call {
                 let given = check(*n, table, body).map(|()| vec![]);
                 answer(given, None)
             }
+            Call::Parse { n, text, room } => {
+                let mut room = room.clone();
+                let given = parse(*n, text, &mut room).map(|nodes| vec![nodes]);
+                answer(given, Some(&room))
+            }
         }
     }
 
@@ -147,6 +155,7 @@ impl Call {
             b'o' => Call::Order { n: number(input, 8)?, body: slice(input)?, room: slice(input)? },
             b'b' => Call::Build { n: number(input, 8)?, table: slice(input)?, room: slice(input)? },
             b'c' => Call::Check { n: number(input, 8)?, table: slice(input)?, body: slice(input)? },
+            b'n' => Call::Parse { n: number(input, 8)?, text: slice(input)?, room: slice(input)? },
             _ => return None,
         })
     }
@@ -173,7 +182,7 @@ fn answer(given: Result<Vec<usize>, Refusal>, lent: Option<&[u8]>) -> Answer {
                     values.extend(value);
                     values
                 }
-                Refusal::TableByte { place } => vec![place.to_string()],
+                Refusal::TableByte { place } | Refusal::Text { place } => vec![place.to_string()],
                 Refusal::NoTree { set } => vec![set.to_string()],
                 Refusal::Contradicted { triple, byte } => {
                     vec![triple.to_string(), byte.to_string()]

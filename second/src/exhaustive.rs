@@ -1,6 +1,9 @@
-//! All tables and all candidates up to four species.
+//! All tables and all candidates up to four species, all short texts, and those at the limits.
 
 use crate::calls::Call;
+use crate::grammar::place;
+use crate::limits::{cases, ladder};
+use crate::newick;
 use crate::trees::{all_trees, subsets, Tree};
 use crate::triples::{all, choose};
 
@@ -166,4 +169,87 @@ pub fn exhaustive(push: &mut dyn FnMut(Call) -> bool) {
             return;
         }
     }
+}
+
+/// One sign of each kind that a text tells apart, and some digits.
+const SIGNS: [u8; 12] = *b"(),;:.0129 x";
+
+/// How many signs more than all texts those have whose last sign is the first that may be wrong.
+const MORE: usize = 2;
+
+/// Texts in which every byte is tried at every place.
+const BASES: [&[u8]; 3] = [b"(0,1);", b" 21:10.9 ; ", b"((0,2):1,1);"];
+
+/// Every text of up to `longest` signs; some signs further, those that only the last sign can make
+/// wrong; and every byte at every place of some texts.
+pub fn texts(longest: usize, push: &mut dyn FnMut(Call) -> bool) -> bool {
+    // so that each kind of text meets rooms that are long enough, too short, or not there
+    let mut room = (0..8).cycle();
+    let mut read = |text: &[u8]| {
+        let room = vec![9; room.next().expect("it goes on")];
+        push(Call::Parse { n: 3, text: text.to_vec(), room })
+    };
+    longer(&mut Vec::new(), longest, &mut read)
+        && BASES.iter().all(|base| {
+            (0..=base.len()).all(|at| {
+                (0..=255).all(|byte| {
+                    let (before, behind) = base.split_at(at);
+                    let inserted = [before, &[byte], behind].concat();
+                    let changed = [before, &[byte], behind.get(1..).unwrap_or_default()].concat();
+                    read(&inserted) && read(&changed)
+                })
+            })
+        })
+}
+
+/// The text, and all that begin with it.
+fn longer(text: &mut Vec<u8>, longest: usize, read: &mut dyn FnMut(&[u8]) -> bool) -> bool {
+    let more = text.len() < longest || text.len() < longest + MORE && begins_a_text(text);
+    read(text)
+        && (!more
+            || SIGNS.iter().all(|&sign| {
+                text.push(sign);
+                let go_on = longer(text, longest, read);
+                text.pop();
+                go_on
+            }))
+}
+
+/// Is there a text that begins so? By brute force over the rules.
+fn begins_a_text(start: &[u8]) -> bool {
+    place(start).map_or(true, |place| place == start.len())
+}
+
+/// Every text at the limits, which the reader has to refuse at the place that is known; every room
+/// about the length of a body; and what comes first where there is more than one refusal.
+pub fn limits(push: &mut dyn FnMut(Call) -> bool) -> bool {
+    let mut calls = Vec::new();
+    let mut call = |n: u64, text: &[u8], room: usize| {
+        calls.push(Call::Parse { n, text: text.to_vec(), room: vec![9; room] });
+    };
+    for (text, place) in cases() {
+        assert_eq!(newick::read(&text).err(), place, "the place by hand: {}", String::from_utf8_lossy(&text));
+        call(64, &text, 260);
+        call(1, &text, 260);
+    }
+
+    // every room up to some bytes more than the body; the last four short texts have none that is good
+    let largest = ladder(63);
+    let short = ["0;", "(1,0);", "(0,1,2);", "((0,1),(2,3)):5;", "(0);", "(0,(0,1));", "(0,9", ""];
+    for (text, longest) in short.iter().map(|text| (*text, 20)).chain([(&largest[..], 260)]) {
+        for room in 0..=longest {
+            call(64, text.as_bytes(), room);
+        }
+    }
+
+    // n comes first, then the text, the tree, and the room
+    let over = "x".repeat(4_097);
+    for text in ["0;", "(1,0);", "1;", "63;", "64;", "(0);", "(0,64);", "(64);", "x", "", "((0,1),2", &over] {
+        for n in [0, 1, 2, 63, 64, 65, 66, 128, 255, 256, 257, 320, 65_537, 1 << 32, (1 << 32) + 4, 1 << 63, u64::MAX] {
+            for room in [0, 1, 2, 6, 300] {
+                call(n, text.as_bytes(), room);
+            }
+        }
+    }
+    calls.into_iter().all(push)
 }

@@ -4,6 +4,7 @@ use crate::calls::Call;
 use crate::entered::Entered;
 use crate::operations::contradiction;
 use crate::random::Random;
+use crate::texts;
 use crate::trees::Tree;
 use crate::triples::{all, choose, members, one};
 
@@ -33,7 +34,7 @@ impl Inputs {
         if n > 48 {
             self.large += 1;
         }
-        let letter = self.random.pick(b"rrrlllleeeoooobbbbbccccccc");
+        let letter = self.random.pick(b"rrrlllleeeoooobbbbbcccccccnnnnn");
         match letter {
             b'r' => Call::Read { bytes: self.collection(n) },
             b'l' => {
@@ -44,6 +45,7 @@ impl Inputs {
             b'e' => self.enter(n),
             b'o' => self.order(n),
             b'b' => self.build(n),
+            b'n' => self.parse(n),
             _ => self.check(n, slow_allowed),
         }
     }
@@ -576,6 +578,28 @@ impl Inputs {
         let table = self.table_handed(table);
         let room = self.room(4 * n - 2);
         Call::Build { n: self.handed(n), table, room }
+    }
+
+    /// A text of a tree, often of one that breaks a rule or is about as large as a text's may be; and
+    /// often damaged.
+    fn parse(&mut self, n: usize) -> Call {
+        let tree = if self.random.chance(1, 20) {
+            texts::large(&mut self.random)
+        } else {
+            let set = self.some_species(n);
+            self.tree(set)
+        };
+        let tree = if self.random.chance(1, 3) { texts::wild(&tree, n, &mut self.random) } else { tree };
+        let mut text = texts::written(&tree, &mut self.random);
+        if self.random.chance(1, 100) {
+            texts::stretch(&mut text, &mut self.random);
+        }
+        texts::read_again(&tree, &text);
+        if self.random.chance(2, 5) {
+            texts::damage(&mut text, &mut self.random);
+        }
+        let room = self.room(tree.preorder().len());
+        Call::Parse { n: self.handed(n), text, room }
     }
 
     /// A table, and a tree to be held against it.

@@ -1,4 +1,4 @@
-//! The second program: the six operations of document 01 once more, in the plainest way, and the
+//! The second program: the operations of documents 01 and 02 once more, in the plainest way, and the
 //! comparison of the proved programs with it. README.md says how to run it.
 
 mod calls;
@@ -6,13 +6,17 @@ mod collections;
 mod compare;
 mod entered;
 mod exhaustive;
+mod grammar;
 mod inputs;
+mod limits;
 mod named;
+mod newick;
 mod operations;
 mod programs;
 mod protocol;
 mod random;
 mod shelf;
+mod texts;
 mod trees;
 mod triples;
 
@@ -28,15 +32,18 @@ use programs::{Feed, Program, Programs};
 /// What the gate runs.
 const CALLS: u64 = 100_000;
 const SEED: u64 = 1;
+const TEXTS: usize = 5;
 
-/// Every number that each operation has, and every fault.
-const NUMBERS: [(char, &str, &[u8]); 6] = [
-    ('r', "read", &[0, 1, 2, 3, 4, 5, 6]),
-    ('l', "list", &[0, 1, 2, 3, 4, 5, 6, 7]),
-    ('e', "enter", &[0, 2, 7, 13]),
-    ('o', "order", &[0, 2, 5, 6, 9]),
-    ('b', "build", &[0, 2, 7, 8, 9, 10]),
-    ('c', "check", &[0, 2, 5, 6, 7, 8, 11, 12]),
+/// Every number that each operation has, and every fault of its refusal 6.
+const NUMBERS: [(char, &str, &[u8], &[&str]); 7] = [
+    ('r', "read", &[0, 1, 2, 3, 4, 5, 6], &FAULTS),
+    ('l', "list", &[0, 1, 2, 3, 4, 5, 6, 7], &FAULTS),
+    ('e', "enter", &[0, 2, 7, 13], &[]),
+    ('o', "order", &[0, 2, 5, 6, 9], &FAULTS),
+    ('b', "build", &[0, 2, 7, 8, 9, 10], &[]),
+    ('c', "check", &[0, 2, 5, 6, 7, 8, 11, 12], &FAULTS),
+    // a text cannot make a bad parent
+    ('n', "parse", &[0, 2, 6, 9, 14], &["species", "seen", "only"]),
 ];
 const FAULTS: [&str; 4] = ["parent", "species", "seen", "only"];
 
@@ -58,7 +65,7 @@ fn usage() -> ExitCode {
     eprintln!("second answer < CALLS       the lines that trial has to write");
     eprintln!("second shelf < COLLECTION   what shelf has to write");
     eprintln!("second named                the runs by name, without the proved programs");
-    eprintln!("second compare [--calls N] [--seed S] [--trial FILE] [--shelf FILE] -- [WORDS]");
+    eprintln!("second compare [--calls N] [--seed S] [--texts L] [--trial FILE] [--shelf FILE] -- [WORDS]");
     eprintln!("                            compares target/bin/trial and target/bin/shelf, which");
     eprintln!("                            WORDS run; .ci/compare/second calls it");
     ExitCode::from(2)
@@ -78,7 +85,7 @@ fn write(bytes: &[u8]) -> ExitCode {
 }
 
 fn compare(words: &[String]) -> ExitCode {
-    let (mut calls, mut seed, mut again) = (CALLS, SEED, Vec::new());
+    let (mut calls, mut seed, mut texts, mut again) = (CALLS, SEED, TEXTS, Vec::new());
     let mut words = words.iter();
     while let Some(word) = words.next() {
         if word == "--" {
@@ -88,6 +95,7 @@ fn compare(words: &[String]) -> ExitCode {
         match (word.as_str(), value, value.and_then(|v| v.parse().ok())) {
             ("--calls", _, Some(number)) => calls = number,
             ("--seed", _, Some(number)) => seed = number,
+            ("--texts", _, Some(number)) => texts = number as usize,
             ("--trial", Some(file), _) => again.push((Program::Trial, file.clone())),
             ("--shelf", Some(file), _) => again.push((Program::Shelf, file.clone())),
             _ => return usage(),
@@ -95,7 +103,7 @@ fn compare(words: &[String]) -> ExitCode {
     }
     let programs = Programs { words: words.cloned().collect() };
     if again.is_empty() {
-        compare_all(programs, calls, seed)
+        compare_all(programs, calls, seed, texts)
     } else {
         compare_again(&programs, &again)
     }
@@ -134,7 +142,7 @@ fn compare_again(programs: &Programs, again: &[(Program, String)]) -> ExitCode {
     }
 }
 
-fn compare_all(programs: Programs, calls: u64, seed: u64) -> ExitCode {
+fn compare_all(programs: Programs, calls: u64, seed: u64, texts: usize) -> ExitCode {
     let folder = PathBuf::from("target/second");
     if let Ok(files) = std::fs::read_dir(&folder) {
         for file in files.flatten() {
@@ -155,7 +163,17 @@ fn compare_all(programs: Programs, calls: u64, seed: u64) -> ExitCode {
     part(&mut comparison, "all tables and candidates up to n = 4", |c| {
         c.calls(exhaustive::exhaustive);
     });
-    let exhaustive = std::mem::take(&mut comparison.counts);
+    part(&mut comparison, &format!("all texts of up to {texts} signs"), |c| {
+        c.calls(|push| {
+            exhaustive::texts(texts, push);
+        });
+    });
+    part(&mut comparison, "texts at the limits", |c| {
+        c.calls(|push| {
+            exhaustive::limits(push);
+        });
+    });
+    let fixed = std::mem::take(&mut comparison.counts);
     let mut made = (0, 0);
     part(&mut comparison, "random calls", |c| {
         c.calls(|push| {
@@ -173,8 +191,8 @@ fn compare_all(programs: Programs, calls: u64, seed: u64) -> ExitCode {
     });
     println!("second: among the random calls {} with more than 48 species, {} slow checks", made.1, made.0);
 
-    println!("second: how often each number came, among all up to n = 4 and among the random calls:");
-    let never = tell_counts(&exhaustive, &comparison.counts);
+    println!("second: how often each number came, among the fixed calls and among the random ones:");
+    let never = tell_counts(&fixed, &comparison.counts);
     for what in &never {
         println!("second: never came among the random calls: {what}");
     }
@@ -200,27 +218,27 @@ fn part(comparison: &mut Comparison, name: &str, run: impl FnOnce(&mut Compariso
 }
 
 /// Prints how often each number came; returns those that never did among the random calls.
-fn tell_counts(exhaustive: &Counts, random: &Counts) -> Vec<String> {
+fn tell_counts(fixed: &Counts, random: &Counts) -> Vec<String> {
     let mut never = Vec::new();
-    for (letter, name, numbers) in NUMBERS {
+    for (letter, name, numbers, faults) in NUMBERS {
         let mut line = format!("second:   {name:<5}");
         for number in numbers {
             let key = (letter, *number);
             let often = random.numbers.get(&key).copied().unwrap_or(0);
-            let before = exhaustive.numbers.get(&key).copied().unwrap_or(0);
+            let before = fixed.numbers.get(&key).copied().unwrap_or(0);
             line.push_str(&format!("  {number}: {before} + {often}"));
             if often == 0 {
                 never.push(format!("{name} {number}"));
             }
         }
         println!("{line}");
-        if !numbers.contains(&6) {
+        if faults.is_empty() {
             continue;
         }
         let mut line = format!("second:   {name:<5}  of the 6:");
-        for fault in FAULTS {
+        for &fault in faults {
             let often = random.faults.get(&(letter, fault)).copied().unwrap_or(0);
-            let before = exhaustive.faults.get(&(letter, fault)).copied().unwrap_or(0);
+            let before = fixed.faults.get(&(letter, fault)).copied().unwrap_or(0);
             line.push_str(&format!("  {fault}: {before} + {often}"));
             if often == 0 {
                 never.push(format!("{name} 6 {fault}"));

@@ -1,11 +1,11 @@
-//! Runs by name, each with its outcome written out by hand: those of document 01, and worked
-//! examples of its source papers.
+//! Runs by name, each with its outcome written out by hand: those of document 01, worked examples of
+//! its source papers, and Newick texts (document 02, T-01).
 
 use crate::calls::Call;
 use crate::compare::{shown, split, Comparison};
+use crate::newick;
 use crate::programs::{Feed, Program, Run};
 use crate::shelf::shelf;
-use crate::trees::Tree;
 
 struct Runs {
     calls: Vec<(String, Call, String)>,
@@ -32,31 +32,30 @@ impl Runs {
         self.call(name, Call::Read { bytes: bytes.to_vec() }, line);
     }
 
+    /// A text into a room with as many bytes 9 behind the body as are given; it is named by itself.
+    fn parse(&mut self, n: u64, text: &[u8], nodes: usize, body: &str, behind: usize) {
+        let call = Call::Parse { n, text: text.to_vec(), room: vec![9; 2 * nodes + behind] };
+        self.call(&text_name(n, text), call, &format!("0 {nodes} | {body}{}", " 9".repeat(behind)));
+    }
+
+    /// A text that is refused, which leaves its room of 8 bytes as it was.
+    fn parse_refused(&mut self, n: u64, text: &[u8], refusal: &str) {
+        let call = Call::Parse { n, text: text.to_vec(), room: vec![9; 8] };
+        self.call(&text_name(n, text), call, &format!("{refusal} | 9 9 9 9 9 9 9 9"));
+    }
+
     fn shelf(&mut self, name: &str, bytes: &[u8], output: &str) {
         self.shelf.push((name.to_string(), bytes.to_vec(), output.to_string()));
     }
 }
 
-/// The tree of a text such as ((0,1),2), species by one digit each.
-fn tree(text: &str) -> Tree {
-    fn at(text: &mut std::iter::Peekable<std::str::Chars>) -> Tree {
-        let first = text.next().expect("a tree");
-        if let Some(species) = first.to_digit(10) {
-            return Tree::Leaf(species as usize);
-        }
-        assert_eq!(first, '(');
-        let mut children = vec![at(text)];
-        while text.next_if_eq(&',').is_some() {
-            children.push(at(text));
-        }
-        assert_eq!(text.next(), Some(')'));
-        Tree::Inner(children)
-    }
-    at(&mut text.chars().peekable())
+/// The body of a tree such as ((0,1),2), in house order.
+fn body(tree: &str) -> Vec<u8> {
+    newick::read(format!("{tree};").as_bytes()).expect("a tree").house_order()
 }
 
-fn body(text: &str) -> Vec<u8> {
-    tree(text).house_order()
+fn text_name(n: u64, text: &[u8]) -> String {
+    format!("n={n}, text {:?}", short(&String::from_utf8_lossy(text)))
 }
 
 fn collection(n: usize, papers: &[&str]) -> Vec<u8> {
@@ -285,10 +284,126 @@ fn papers(runs: &mut Runs) {
     );
 }
 
+/// Newick texts that are read: the body in the text's order.
+fn texts_read(runs: &mut Runs) {
+    runs.parse(4, b"((0,1),2);", 5, "255 255 0 255 1 0 1 1 0 2", 2);
+    runs.parse(4, b"(2,(1,0));", 5, "255 255 0 2 0 255 2 1 2 0", 0);
+    runs.parse(4, b"(3,0,(2,1));", 6, "255 255 0 3 0 0 0 255 3 2 3 1", 1);
+    runs.parse(6, b"5;", 1, "255 5", 3);
+    runs.parse(6, b"5:1;", 1, "255 5", 0);
+    runs.parse(64, b"63;", 1, "255 63", 0);
+    runs.parse(1, b"0;", 1, "255 0", 0);
+    // lengths are thrown away, and only a species number may not begin with a 0
+    for text in ["0: 1;", "0:003;", "0:0;", "0:00.00;", "0:1.5;", "0 :1;", "0:1 ;", "0:999;", "0:18446744073709551616;"]
+    {
+        runs.parse(1, text.as_bytes(), 1, "255 0", 1);
+    }
+    runs.parse(3, b"((0:1,1:2.25):0.5,2:7):0;", 5, "255 255 0 255 1 0 1 1 0 2", 0);
+    // blanks before the first byte, about every sign, and behind the semicolon
+    runs.parse(3, b"\r\n ( ( 0 , 1 ) : 3.5 , 2 )\n:\r1 ; \n\r", 5, "255 255 0 255 1 0 1 1 0 2", 0);
+}
+
+/// Newick texts that are refused.
+fn texts_refused(runs: &mut Runs) {
+    for (text, place) in [
+        ("(0,1", 4),
+        ("", 0),
+        (" ", 1),
+        (";", 0),
+        ("0", 1),
+        ("x;", 0),
+        // a number has no leading zeros, and no blanks inside
+        ("00;", 1),
+        ("01;", 1),
+        ("0 1;", 2),
+        ("1 2;", 2),
+        // a colon asks for digits, and a point too
+        ("(0:,1);", 3),
+        ("0:;", 2),
+        ("0:.5;", 2),
+        ("0:1.;", 4),
+        ("0:1 .5;", 4),
+        ("0:1. 5;", 4),
+        ("0:1 5;", 4),
+        ("0:1.5.5;", 5),
+        ("0:1:2;", 3),
+        ("0:1 :2;", 4),
+        ("0:-1;", 2),
+        ("0:1e5;", 3),
+        (":1;", 0),
+        // empty brackets and empty places
+        ("()", 1),
+        ("();", 1),
+        ("(0,,1);", 3),
+        ("(,0);", 1),
+        ("(0,);", 3),
+        ("(0 1);", 3),
+        ("(0(1));", 2),
+        // inner labels and quotes
+        ("(0,1)2;", 5),
+        ("(0,1)a;", 5),
+        ("('0',1);", 1),
+        // brackets and semicolons that do not fit
+        ("(0,1));", 5),
+        ("(0,1;", 4),
+        ("0,1;", 1),
+        ("0);", 1),
+        ("(0,1);x", 6),
+        ("(0,1);;", 6),
+        // a tab is no blank, nor is NUL
+        ("\t0;", 0),
+        ("0\t;", 1),
+        ("0;\t", 2),
+        ("0;\0", 2),
+        // the digit that takes a number past 254
+        ("255;", 2),
+        ("300;", 2),
+        ("2540;", 3),
+        ("(0,999);", 5),
+        ("25 5;", 3),
+    ] {
+        runs.parse_refused(4, text.as_bytes(), &format!("14 {place}"));
+    }
+    // the limits: the bracket one too deep, the first sign of the 128th node, the bytes
+    runs.parse_refused(64, "(".repeat(64).as_bytes(), "14 63");
+    runs.parse_refused(64, format!("{}0{};", "(".repeat(63), ")".repeat(63)).as_bytes(), "6 0 0 only");
+    runs.parse_refused(64, format!("({}0);", "0,".repeat(126)).as_bytes(), "14 253");
+    runs.parse_refused(64, format!("({}0);", "0,".repeat(125)).as_bytes(), "6 0 2 seen 1");
+    runs.parse_refused(64, format!("x{}", " ".repeat(4_096)).as_bytes(), "14 4096");
+    runs.parse_refused(64, format!("x{}", " ".repeat(4_095)).as_bytes(), "14 0");
+    runs.parse_refused(64, " ".repeat(4_096).as_bytes(), "14 4096");
+
+    // 2 comes before 14, then comes 6 in the body's order, then 9
+    for n in [0, 65, 1 << 32, u64::MAX] {
+        runs.parse_refused(n, b"(0,1);", "2");
+        runs.parse_refused(n, b"x", "2");
+    }
+    for (n, text, refusal) in [
+        (6, "(5);", "6 0 0 only"),
+        (4, "(5);", "6 0 0 only"),
+        (4, "4;", "6 0 0 species 4"),
+        (4, "254;", "6 0 0 species 254"),
+        (4, "(0,1,200);", "6 0 3 species 200"),
+        (4, "(0,1,0);", "6 0 3 seen 1"),
+        (4, "(4,(1));", "6 0 1 species 4"),
+        (4, "((1),4);", "6 0 1 only"),
+        (4, "(1,(1));", "6 0 2 only"),
+    ] {
+        runs.parse_refused(n, text.as_bytes(), refusal);
+    }
+    let short_room = |text: &[u8], room| Call::Parse { n: 4, text: text.to_vec(), room: vec![9; room] };
+    runs.call("text \"(0,1);\", room of 5 bytes", short_room(b"(0,1);", 5), "9 | 9 9 9 9 9");
+    runs.call("text \"0;\", no room", short_room(b"0;", 0), "9 |");
+    runs.call("text \"(0);\", no room", short_room(b"(0);", 0), "6 0 0 only |");
+    runs.call("text \"(0)\", no room", short_room(b"(0)", 0), "14 3 |");
+}
+
 fn all_runs() -> Runs {
     let mut runs = Runs { calls: Vec::new(), shelf: Vec::new() };
     document_01(&mut runs);
     papers(&mut runs);
+    texts_read(&mut runs);
+    texts_refused(&mut runs);
     runs
 }
 

@@ -1,6 +1,8 @@
-//! The six operations (document 01, "Numbers handed back").
+//! The seven operations (document 01, "Numbers handed back", and document 02, T-01).
 
 use crate::entered::{some_tree_holds, Entered};
+use crate::grammar::{self, LONGEST_SEARCHED};
+use crate::newick;
 use crate::trees::{broken_rule, Fault, Tree};
 use crate::triples::{all, choose, has, index, triples, triplets_on};
 
@@ -19,6 +21,7 @@ pub enum Refusal {
     Contradicted { triple: usize, byte: u8 },
     NotForced { triple: usize },
     Record { record: usize },
+    Text { place: usize },
 }
 
 impl Refusal {
@@ -37,6 +40,7 @@ impl Refusal {
             Refusal::Contradicted { .. } => 11,
             Refusal::NotForced { .. } => 12,
             Refusal::Record { .. } => 13,
+            Refusal::Text { .. } => 14,
         }
     }
 }
@@ -163,14 +167,18 @@ pub fn enter(n: u64, records: &[[u8; 3]], table: &mut [u8]) -> Result<usize, Ref
 pub fn order(n: u64, body: &[u8], room: &mut [u8]) -> Result<usize, Refusal> {
     let n = size(n)?;
     body_length(0, body.len())?;
-    let tree = tree_of(0, n, body)?;
+    let ordered = tree_of(0, n, body)?.house_order();
+    assert_eq!(ordered.len(), body.len());
+    put_body(&ordered, room)
+}
+
+/// Writes a body to the front of a room that is long enough. Returns the node count.
+fn put_body(body: &[u8], room: &mut [u8]) -> Result<usize, Refusal> {
     if room.len() < body.len() {
         return Err(Refusal::Room);
     }
-    let ordered = tree.house_order();
-    assert_eq!(ordered.len(), body.len());
-    room[..ordered.len()].copy_from_slice(&ordered);
-    Ok(ordered.len() / 2)
+    room[..body.len()].copy_from_slice(body);
+    Ok(body.len() / 2)
 }
 
 /// Builds the tree of a table in the lent room. Returns the node count.
@@ -186,12 +194,21 @@ pub fn build(n: u64, table: &[u8], room: &mut [u8]) -> Result<usize, Refusal> {
     }
     match Entered::from_table(n, table).build(all(n)) {
         Err(set) => Err(Refusal::NoTree { set }),
-        Ok(tree) => {
-            let body = tree.preorder();
-            room[..body.len()].copy_from_slice(&body);
-            Ok(body.len() / 2)
-        }
+        Ok(tree) => put_body(&tree.preorder(), room),
     }
+}
+
+/// Reads a Newick text into the lent room, as a body in the text's order. Returns the node count.
+pub fn parse(n: u64, text: &[u8], room: &mut [u8]) -> Result<usize, Refusal> {
+    let n = size(n)?;
+    let read = newick::read(text);
+    if text.len() <= LONGEST_SEARCHED {
+        assert_eq!(read.as_ref().err().copied(), grammar::place(text), "the reader and the search over the rules");
+    }
+    let body = read.map_err(|place| Refusal::Text { place })?.preorder();
+    body_length(0, body.len()).expect("a text gives no body of a bad length");
+    tree_of(0, n, &body)?;
+    put_body(&body, room)
 }
 
 /// Checks a candidate against a table.

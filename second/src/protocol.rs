@@ -16,6 +16,7 @@ fn short_calls() -> Vec<(Call, &'static str)> {
         (Call::Order { n: 1, body: vec![255, 0], room: vec![9, 9] }, "0 1 | 255 0\n"),
         (Call::Build { n: 1, table: vec![], room: vec![9, 9] }, "0 1 | 255 0\n"),
         (Call::Check { n: 3, table: vec![0], body: vec![255, 2] }, "0\n"),
+        (Call::Parse { n: 2, text: b"1:3;".to_vec(), room: vec![9, 9, 9] }, "0 1 | 255 1 9\n"),
     ]
 }
 
@@ -61,6 +62,8 @@ fn by_hand() -> Vec<Case> {
         ("b, room", Call::Build { n: 3, table: vec![0], room: longer.clone() }),
         ("c, table", Call::Check { n: 3, table: longer.clone(), body: vec![] }),
         ("c, body", Call::Check { n: 3, table: vec![0], body: longer.clone() }),
+        ("n, text", Call::Parse { n: 3, text: longer.clone(), room: vec![] }),
+        ("n, room", Call::Parse { n: 3, text: b"0;".to_vec(), room: longer.clone() }),
     ];
     for (name, call) in long {
         let input = [first.bytes(), call.bytes(), first.bytes()].concat();
@@ -94,7 +97,9 @@ fn longest() -> Vec<Case> {
         Call::Build { n: 64, table: nines.clone(), room: nines.clone() },
         Call::Build { n: 3, table: vec![2], room: nines.clone() },
         Call::Check { n: 64, table: nines.clone(), body: nines.clone() },
-        Call::Check { n: 3, table: vec![1], body: nines },
+        Call::Check { n: 3, table: vec![1], body: nines.clone() },
+        Call::Parse { n: 3, text: vec![b' '; LONGEST], room: nines.clone() },
+        Call::Parse { n: 3, text: b"(2,0);".to_vec(), room: nines },
     ];
     calls
         .into_iter()

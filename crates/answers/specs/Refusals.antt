@@ -1,8 +1,8 @@
 -- Document 01's table, "Numbers handed back": the number and the values of each refusal. A refusal more is a line more.
 use mathlib.Core.List.{[], _∷_}
-use Rattle.answers.specs.Answers.{Told, first-place, first-record, left-over, node-number, rule-broken, stopping-set, table-byte, told, tree-number, triple-index, value}
+use Rattle.answers.specs.Answers.{Told, byte-place, first-place, first-record, left-over, node-number, rule-broken, stopping-set, table-byte, told, tree-number, triple-index, value}
 use Rattle.answers.specs.declared.Refusal.{Refusal}
-use Rattle.answers.specs.declared.Refusal.the-variants.{BadByte, BadCounts, BadLength, BadRecord, BadTable, BadTree, BadVersion, Contradicted, EndsEarly, LeftOver, NoTree, ShortRoom, Unforced}
+use Rattle.answers.specs.declared.Refusal.the-variants.{BadByte, BadCounts, BadLength, BadRecord, BadTable, BadText, BadTree, BadVersion, Contradicted, EndsEarly, LeftOver, NoTree, ShortRoom, Unforced}
 
 abbrev pub refusalTold : Refusal → Told
 refusalTold BadVersion = told 1 []
@@ -18,3 +18,5 @@ refusalTold (NoTree u) = told 10 (value stopping-set u ∷ [])
 refusalTold (Contradicted x) = told 11 (value triple-index (x .index) ∷ value table-byte (x .byte) ∷ [])
 refusalTold (Unforced i) = told 12 (value triple-index i ∷ [])
 refusalTold (BadRecord i) = told 13 (value first-record i ∷ [])
+-- request T-01: "14 with the byte place"
+refusalTold (BadText p) = told 14 (value byte-place p ∷ [])

@@ -29,6 +29,7 @@ pub enum Refusal {
     Contradicted(Contradiction),
     Unforced(usize),
     BadRecord(usize),
+    BadText(usize),
 }
 
 // A look at what is handed in.

@@ -14,7 +14,7 @@ use Rattle.trees.specs.Trees.{Tree, Forest, leaf, node, nil, cons, under, under
 use Rattle.trees.proofs.Formed.{Formed, FormedF, formed-e}
 use Rattle.bodies.specs.Nodes.{nodes, width, mostNodes, bodyLength, longest, badLength, roomFor, Good}
 use Rattle.bodies.specs.Draws.{treeOf, nodeCount, nodeCountF, bytes, bytesF, bodyOf}
-use Rattle.bodies.proofs.Laid.{Lays, LaysF, count-pos, laid-good, laid-back}
+use Rattle.bodies.proofs.Laid.{good-back, Lays, LaysF, count-pos, laid-good, laid-back}
 
 -- ---- the bytes lay the tree out
 
@@ -112,25 +112,29 @@ body-length t = bytes-length t 255 0
 pub body-count : (t : Tree) → nodes (bodyOf t) .count ≡ nodeCount t
 body-count t = omega (arith, body-length t)
 
-good-length : (k : ℕ) → 0 < k → k ≤ mostNodes → badLength (bodyLength k) ≡ false
+pub good-length : (k : ℕ) → 0 < k → k ≤ mostNodes → badLength (bodyLength k) ≡ false
 good-length k p h =
     let z : bodyLength k ≡ 0 → ⊥ = λ e. omega arith in
     let m : bodyLength k % width ≡ 0 = omega arith in
     rw (ne-eqb (bodyLength k) 0 z, eq-eqb (bodyLength k % width) 0 m) (le-ltb longest (bodyLength k) (omega arith))
+
+lays-body : (t : Tree) → Lays (nodes (bodyOf t)) t 255 0
+lays-body t = lays-bytes (bodyOf t) [] t 255 0 (sym (append-nil (bodyOf t)))
+
+-- a body of a tree, if it is good, draws that tree
+pub drawn-back : (n : ℕ) (t : Tree) → n ≤ 64 → Good n (nodes (bodyOf t)) → treeOf (bodyOf t) ≡ t
+drawn-back n t small g = good-back (nodes (bodyOf t)) n (omega arith) g t (lays-body t) (body-count t)
 
 module _ (n : ℕ) (t : Tree) (w : So (wellFormed t)) (bd : Below n (under t)) where
   pub body-room : length (bodyOf t) ≤ roomFor n
   body-room = omega (arith, body-length t, nodes-few t w, leaves-few n t w bd)
 
   module _ (small : n ≤ 64) where
-    lays-body : Lays (nodes (bodyOf t)) t 255 0
-    lays-body = lays-bytes (bodyOf t) [] t 255 0 (sym (append-nil (bodyOf t)))
-
     pub body-good : Good n (nodes (bodyOf t))
-    body-good = laid-good (nodes (bodyOf t)) n t (omega arith) (formed-e t w) bd lays-body (body-count t)
+    body-good = laid-good (nodes (bodyOf t)) n t (omega arith) (formed-e t w) bd (lays-body t) (body-count t)
 
     pub body-back : treeOf (bodyOf t) ≡ t
-    body-back = laid-back (nodes (bodyOf t)) n t (omega arith) (formed-e t w) bd lays-body (body-count t)
+    body-back = laid-back (nodes (bodyOf t)) n t (omega arith) (formed-e t w) bd (lays-body t) (body-count t)
 
     pub body-badLength : badLength (length (bodyOf t)) ≡ false
     body-badLength = ap badLength (body-length t) ∙ good-length (nodeCount t) (count-pos t) (omega (arith, nodes-few t w, leaves-few n t w bd))

@@ -39,9 +39,9 @@ kids-degree : (f : Forest) (at : ℕ) → length (kidsAt f at) ≡ degree f
 kids-degree nil at = refl
 kids-degree (cons t f) at = ap suc (kids-degree f (at + nodeCount t))
 
-grow-node : (s : ℕ) (f : Forest) → 2 ≤ degree f → grow s f ≡ node f
-grow-node s nil h = absurd (omega arith)
-grow-node s (cons t f) h = refl
+grow-node : (s at : ℕ) (f : Forest) → (length (kidsAt f at) ≡ 0 → ⊥) → grow s f ≡ node f
+grow-node s at nil h = absurd (h refl)
+grow-node s at (cons t f) h = refl
 
 module _ (v : Nodes) where
   -- ---- the parents inside a stretch
@@ -199,7 +199,30 @@ module _ (v : Nodes) where
             (subst (λ (z : ℕ). So (under t z)) e (stands t p at (l .0) i a m (omega arith)))
             (standsF f p (at + nodeCount t) (l .1) j (omega arith) (omega arith) s)
 
-  -- ---- good nodes, and their tree
+  -- ---- good nodes draw the tree that they lay out
+
+  module _ (n : ℕ) (small : n ≤ 255) (g : Good n v) where
+    mutual
+      back : (u : Tree) (p at : ℕ) → Lays v u p at → Outside at (nodeCount u) → at + nodeCount u ≤ v .count → subtree v at ≡ u
+      back (leaf x) p at l o h =
+          subtree-eq n v g at (omega arith)
+          ∙ ap (λ (z : List ℕ). grow (v .species at) (forestOf (subtree v) z)) (children-at (g .later) nil at tt o h) ∙ ap leaf (l .1)
+      back (node f) p at l o h =
+          subtree-eq n v g at (omega arith)
+          ∙ ap (λ (z : List ℕ). grow (v .species at) (forestOf (subtree v) z)) (children-at (g .later) f at (l .2) o h)
+          ∙ ap (grow (v .species at)) (backF f at (suc at) (omega arith) (l .2) (outside-kids f at o) (omega arith))
+          ∙ grow-node (v .species at) (suc at) f (λ e. omega (arith, l .1, g .outer at (omega arith) (ap length (children-at (g .later) f at (l .2) o h) ∙ e)))
+
+      backF : (f : Forest) (p at : ℕ) → p < at → LaysF v f p at → Outside at (nodeCountF f) → at + nodeCountF f ≤ v .count → forestOf (subtree v) (kidsAt f at) ≡ f
+      backF nil p at q l o h = refl
+      backF (cons t f) p at q l o h = ap₂ cons
+          (back t p at (l .0) (outside-first t f p at q (l .1) o) (omega arith))
+          (backF f p (at + nodeCount t) (omega arith) (l .1) (outside-rest t f at o) (omega arith))
+
+    pub good-back : (t : Tree) → Lays v t 255 0 → v .count ≡ nodeCount t → subtree v 0 ≡ t
+    good-back t l full = back t 255 0 l (λ c h m a b. omega arith) (omega arith)
+
+  -- ---- nodes that lay out a well-formed tree are good
 
   module _ (n : ℕ) (t : Tree) (small : n ≤ 255) (w : Formed t) (bd : Below n (under t)) (l : Lays v t 255 0) (full : v .count ≡ nodeCount t) where
     later : (c : ℕ) → 0 < c → c < v .count → v .parent c < c
@@ -231,22 +254,5 @@ module _ (v : Nodes) where
       once = λ i j h m a b e. ⊎-elim (λ p. once t 255 0 w l i j (omega arith) h (omega arith) (omega (arith, p .1)) e) (λ p. omega (arith, p .0)) (kind j m);
     }
 
-    mutual
-      back : (u : Tree) (p at : ℕ) → Formed u → Lays v u p at → Outside at (nodeCount u) → at + nodeCount u ≤ v .count → subtree v at ≡ u
-      back (leaf x) p at w l o h =
-          subtree-eq n v laid-good at (omega arith)
-          ∙ ap (λ (z : List ℕ). grow (v .species at) (forestOf (subtree v) z)) (children-at later nil at tt o h) ∙ ap leaf (l .1)
-      back (node f) p at w l o h =
-          subtree-eq n v laid-good at (omega arith)
-          ∙ ap (λ (z : List ℕ). grow (v .species at) (forestOf (subtree v) z)) (children-at later f at (l .2) o h)
-          ∙ ap (grow (v .species at)) (backF f at (suc at) (w .1) (omega arith) (l .2) (outside-kids f at o) (omega arith))
-          ∙ grow-node (v .species at) f (w .0)
-
-      backF : (f : Forest) (p at : ℕ) → FormedF f → p < at → LaysF v f p at → Outside at (nodeCountF f) → at + nodeCountF f ≤ v .count → forestOf (subtree v) (kidsAt f at) ≡ f
-      backF nil p at w q l o h = refl
-      backF (cons t f) p at w q l o h = ap₂ cons
-          (back t p at (w .0) (l .0) (outside-first t f p at q (l .1) o) (omega arith))
-          (backF f p (at + nodeCount t) (w .2) (omega arith) (l .1) (outside-rest t f at o) (omega arith))
-
     pub laid-back : subtree v 0 ≡ t
-    laid-back = back t 255 0 w l whole (omega arith)
+    laid-back = good-back n small laid-good t l full

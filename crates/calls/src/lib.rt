@@ -73,6 +73,7 @@ fn shape_of(byte: u8) -> Shape
         b'o' => row(1, 1, 1),
         b'b' => row(1, 1, 1),
         b'c' => row(1, 1, 1),
+        b'n' => row(1, 1, 1),
         _ => Shape {
             known: false,
             numbers: 0,

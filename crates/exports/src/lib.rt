@@ -8,6 +8,7 @@ ghost use Rattle.entering.specs.Enters.{enterAnswer, enterAfter, enterTold};
 ghost use Rattle.triplets.specs.Spelled.{spelled};
 ghost use Rattle.ordering.specs.Orders.{orderAnswer, orderAfter, orderTold};
 ghost use Rattle.building.specs.Builds.{buildAnswer, buildAfter, buildTold};
+ghost use Rattle.parsing.specs.Parses.{parseAnswer, parseAfter, parseTold};
 ghost use Rattle.checking.specs.Checks.{checkAnswer, checkTold};
 ghost use Rattle.replies.specs.Replied.{replied};
 ghost use Rattle.tables.specs.Named.{named};
@@ -141,6 +142,21 @@ pub extern "C" fn koodhaxil_check(n: usize, t: &[u8], body: &[u8], values: &mut 
     ensures { λ r. ⌜ Handed (checkTold (checkAnswer n (now (t .entry)) (now (body .entry)))) (now (values .entry)) r (now (values .exit)) ⌝ }
 {
     lay(replies::check(checking::check(n, t, body)), values)
+}
+
+// Reads a Newick text into a body, at the front of the room. A refusal leaves every byte of the room as it was.
+#[no_mangle]
+pub extern "C" fn koodhaxil_parse(
+    n: usize,
+    text: &[u8],
+    room: &mut [u8],
+    values: &mut [usize],
+) -> usize
+    ensures { λ r. ⌜ Handed (parseTold (parseAnswer n (now (text .entry)) (length (now (room .entry))))) (now (values .entry)) r (now (values .exit)) ⌝ }
+    ensures { λ _. ⌜ now (room .exit) ≡ parseAfter n (now (text .entry)) (now (room .entry)) ⌝ }
+{
+    let a = parsing::parse(n, text, room);
+    lay(replies::parse(a), values)
 }
 
 // Is there a triple with this index? It is a question, so that its answer is none of document 01's numbers: 1 for yes, with the three species laid into

@@ -11,6 +11,7 @@ use Rattle.listing.specs.Lists.{listAnswer, listAfter}
 use Rattle.entering.specs.Enters.{enterAnswer, enterAfter, enterTold}
 use Rattle.ordering.specs.Orders.{orderAnswer, orderAfter, orderTold}
 use Rattle.building.specs.Builds.{buildAnswer, buildAfter, buildTold}
+use Rattle.parsing.specs.Parses.{parseAfter, parseAnswer, parseTold}
 use Rattle.checking.specs.Checks.{checkAnswer, checkTold}
 use Rattle.replies.specs.Plain.{Item, plain-number, broken-rule, Plain, plain}
 use Rattle.writing.specs.Texts.{decimal, spaced, ended}
@@ -55,7 +56,7 @@ toldText t = plainText (plain t)
 abbrev pub barred : List ℕ → List ℕ
 barred l = 32 ∷ 124 ∷ spaced l
 
--- ---- the lines: b is a collection, t a table and o a room as they are before the call
+-- ---- the lines: b is a collection, t a table, w a text and o a room as they are before the call
 
 unfoldable pub readLine : List ℕ → List ℕ
 readLine b = ended (toldText (readTold (readAnswer b)))
@@ -71,6 +72,9 @@ orderLine n body o = ended (toldText (orderTold (orderAnswer n body (length o)))
 
 unfoldable pub buildLine : ℕ → List ℕ → List ℕ → List ℕ
 buildLine n t o = ended (toldText (buildTold (buildAnswer n t (length o))) ++ barred (buildAfter n t o))
+
+unfoldable pub parseLine : ℕ → List ℕ → List ℕ → List ℕ
+parseLine n w o = ended (toldText (parseTold (parseAnswer n w (length o))) ++ barred (parseAfter n w o))
 
 unfoldable pub checkLine : ℕ → List ℕ → List ℕ → List ℕ
 checkLine n t body = ended (toldText (checkTold (checkAnswer n t body)))

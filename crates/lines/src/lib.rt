@@ -9,10 +9,11 @@ ghost use Rattle.listing.specs.Lists.{listAfter};
 ghost use Rattle.entering.specs.Enters.{enterAfter};
 ghost use Rattle.ordering.specs.Orders.{orderAfter};
 ghost use Rattle.building.specs.Builds.{buildAfter};
+ghost use Rattle.parsing.specs.Parses.{parseAfter};
 ghost use Rattle.replies.specs.Replied.{replied};
 ghost use Rattle.writing.specs.Texts.{ended};
 ghost use Rattle.writing.specs.Writes.{Writes};
-ghost use Rattle.lines.specs.Lines.{faultText, plainText, toldText, barred, readLine, listLine, enterLine, orderLine, buildLine, checkLine};
+ghost use Rattle.lines.specs.Lines.{faultText, plainText, toldText, barred, readLine, listLine, enterLine, orderLine, buildLine, parseLine, checkLine};
 
 // Writes which rule is broken.
 fn put_fault(out: &mut [u8], at: usize, f: bodies::Fault) -> usize
@@ -134,6 +135,16 @@ pub fn build_line(out: &mut [u8], at: usize, n: usize, t: &[u8], room: &mut [u8]
 {
     let a = building::build(n, t, room);
     put_barred(out, at, replies::build(a), room)
+}
+
+// Reads a Newick text into a body, and writes the line of the call.
+pub fn parse_line(out: &mut [u8], at: usize, n: usize, text: &[u8], room: &mut [u8]) -> usize
+    requires { ⌜ at + 4 * length (now room) + 100 ≤ length (now out) ⌝ }
+    ensures { λ r. ⌜ Writes (now (out .entry)) at (parseLine n (now (text .entry)) (now (room .entry))) (now (out .exit)) r ⌝ }
+    ensures { λ _. ⌜ now (room .exit) ≡ parseAfter n (now (text .entry)) (now (room .entry)) ⌝ }
+{
+    let a = parsing::parse(n, text, room);
+    put_barred(out, at, replies::parse(a), room)
 }
 
 // Checks a tree against the table t, and writes the line of the call.

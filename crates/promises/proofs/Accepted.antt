@@ -13,11 +13,11 @@ use Rattle.tables.specs.Bytes.{over, wrongByte, wrongLength}
 use Rattle.tables.specs.Index.{C}
 use Rattle.bodies.specs.Draws.{treeOf}
 use Rattle.bodies.specs.Faults.{fault}
-use Rattle.bodies.specs.Nodes.{badLength, nodes, roomFor}
+use Rattle.bodies.specs.Nodes.{Good, badLength, nodes, roomFor}
 use Rattle.bodies.specs.declared.Verdict.{Verdict}
 use Rattle.bodies.specs.declared.Verdict.the-variants.{Breaks, Fine}
 use Rattle.answers.proofs.Answered.{Each, first-among, first-on, first-stop, number-zero, pass-both, pass-false, pass-one, refuse-one}
-use Rattle.answers.proofs.Good.{body-pass, count-pass, length-pass, room-pass, table-pass}
+use Rattle.answers.proofs.Good.{body-pass, count-pass, length-pass, room-pass, rules-pass, table-pass}
 use Rattle.answers.specs.Answers.{Told, Value}
 use Rattle.answers.specs.Inputs.{Body, Count, Table}
 use Rattle.answers.specs.Looks.{firstRefusal, lookTold, lookBytes, lookCount, lookLength, lookRoom, lookRules, lookTable, refuseIf, ruled, wrongCount}
@@ -38,8 +38,12 @@ use Rattle.ordering.specs.Orders.{orderLooks}
 use Rattle.building.specs.Builds.{inputLooks, lookOutcome, outcome}
 use Rattle.checking.specs.Checks.{firstDiffers, firstUnsure, triplesLooks}
 use Rattle.trees.specs.Build.{Outcome, stop, tree}
+use Rattle.trees.specs.Trees.{Tree}
+use Rattle.newick.specs.Texts.{Readable}
+use Rattle.parsing.proofs.Texts.{text-body, text-pass, textLooks}
+use Rattle.parsing.specs.Parses.{parseLooks, textBody}
 use Rattle.promises.specs.Together.{RefusesBadAlone}
-use Rattle.promises.specs.Inputs.{Buildable, Checkable, Enterable, Listable, Orderable, Triplet}
+use Rattle.promises.specs.Inputs.{Buildable, Checkable, Enterable, Listable, Orderable, Parsable, Triplet}
 
 -- every look of l passes exactly where P is so
 abbrev Passed : List Look → Type 0 → Type 0
@@ -93,6 +97,13 @@ tabled n t = record { so = table-pass n t }
 bodied : (n : ℕ) (b : List ℕ) → Exactly (lookLength 0 (length b) ∷ lookRules 0 n b ∷ []) (Body n b)
 bodied n b = record { so = body-pass 0 n b }
 
+texted : (w : List ℕ) → Exactly (textLooks w) ((t : Tree) × Readable w t)
+texted w = record { so = text-pass w }
+
+-- a body's rules alone
+followed : (n : ℕ) (b : List ℕ) → Exactly (lookRules 0 n b ∷ []) (Good n (nodes b))
+followed n b = one-look (lookRules 0 n b) (rules-pass 0 n b)
+
 roomed : (k l : ℕ) → Exactly (lookRoom k l ∷ []) (k ≤ l)
 roomed k l = one-look (lookRoom k l) (room-pass k l)
 
@@ -110,6 +121,20 @@ order-pass n b o = recorded (counted n then (bodied n b then roomed (length b) (
 pub build-pass : (n : ℕ) (t o : List ℕ) → Passed (inputLooks n t (length o)) (Buildable n t o)
 build-pass n t o = recorded (counted n then (tabled n t then roomed (roomFor n) (length o)))
     (λ p. record { count = p .0; table = p .1 .0; room = p .1 .1 }) (λ g. (g .count, (g .table, g .room)))
+
+pub parse-pass : (n : ℕ) (w o : List ℕ) → Passed (parseLooks n w (length o)) (Parsable n w o)
+parse-pass n w o = recorded (counted n then (texted w then (followed n (textBody w) then roomed (length (textBody w)) (length o)))) (λ p.
+    let x = p .1 .0 in
+    let e = text-body w (x .0) (x .1) in
+    record {
+      count = p .0;
+      tree = x .0;
+      text = x .1;
+      rules = subst (λ (b : List ℕ). Good n (nodes b)) e (p .1 .1 .0);
+      room = subst (λ (b : List ℕ). length b ≤ length o) e (p .1 .1 .1);
+    }) (λ g.
+    let e = sym (text-body w (g .tree) (g .text)) in
+    (g .count, ((g .tree, g .text), (subst (λ (b : List ℕ). Good n (nodes b)) e (g .rules), subst (λ (b : List ℕ). length b ≤ length o) e (g .room)))))
 
 -- 2, 7, 8, 5, 6 of the check
 abbrev pub bothLooks : ℕ → List ℕ → List ℕ → List Look
@@ -151,7 +176,7 @@ check-input n t b = (
 
 -- ---- an operation that keeps demand 1 refuses input exactly when it is not good
 
-zero-good : (r : Told) (k : Look) (vs : List Value) → r ≡ lookTold k vs → {P : Type 0} → (k ≡ Pass) ↔ P → (r .number ≡ 0) ↔ P
+pub zero-good : (r : Told) (k : Look) (vs : List Value) → r ≡ lookTold k vs → {P : Type 0} → (k ≡ Pass) ↔ P → (r .number ≡ 0) ↔ P
 zero-good r k vs e p =
     let n = ap (λ (t : Told). t .number) e in
     ((λ z. p .0 (number-zero k vs .0 (sym n ∙ z))), λ x. n ∙ number-zero k vs .1 (p .1 x))
@@ -205,4 +230,5 @@ accepts L d = record {
       (λ k q s. ⊎-elim (λ z. z) (λ z. absurd (not-input 10 refl k s z)) q) (ten (outcome n t) _) (L .build n t o .told) (d .building n t o .told-is) (build-pass n t o);
   checking = λ n t b. input-good (bothLooks n t b) (triplesLooks n t (treeOf b)) [] (check-input n t b) Eleven
       (λ k q s. ⊎-elim (λ z. z) (⊎-elim (λ z. absurd (not-input 11 refl k s z)) (λ z. absurd (not-input 12 refl k s z))) q) (eleven (ltb (firstDiffers n t (treeOf b)) (C n 3)) (ltb (firstUnsure n t (treeOf b)) (C n 3)) _ _) (L .check n t b) (d .checking n t b) (check-pass n t b);
+  parsing = λ n w o. zero-good (L .parse n w o .told) (firstRefusal (parseLooks n w (length o))) _ (d .parsing n w o .told-is) (parse-pass n w o);
 }

@@ -6,6 +6,7 @@ pub mod Listed
 pub mod Entered
 pub mod Wrote
 pub mod Ordered
+pub mod Parsed
 pub mod Built
 pub mod Alone
 pub mod Rebuilt
@@ -13,6 +14,7 @@ pub mod Promises
 pub mod Checked
 pub mod Star
 pub mod Useless
+pub mod UselessTexts
 pub mod Runs
 pub mod Own
 pub mod Ties

@@ -7,12 +7,14 @@ use Rattle.answers.specs.Looks.{firstRefusal}
 use Rattle.collections.specs.declared.Answer as Reading
 use Rattle.entering.specs.declared.Answer as Entering
 use Rattle.ordering.specs.declared.Answer as Ordering
+use Rattle.parsing.specs.declared.Answer as Parsing
 use Rattle.building.specs.declared.Answer as Building
 use Rattle.checking.specs.declared.Answer as Checking
 use Rattle.collections.specs.Reads.{countsOf, readLooks, readTold}
 use Rattle.listing.specs.Lists.{listLooks}
 use Rattle.entering.specs.Enters.{enterLooks, enterTold, entry}
 use Rattle.ordering.specs.Orders.{orderLooks, orderTold}
+use Rattle.parsing.specs.Parses.{parseDone, parseLooks, parseTold}
 use Rattle.building.specs.Builds.{buildLooks, buildTold, nodesIn, outcome}
 use Rattle.checking.specs.Checks.{checkLooks}
 use Rattle.promises.specs.Accepts.{Accepts}
@@ -20,6 +22,7 @@ use Rattle.promises.specs.Operations.{koodhaxil}
 use Rattle.promises.specs.Demand1.{Demand1}
 use Rattle.promises.specs.Demand2.{Demand2}
 use Rattle.promises.specs.Demand3.{Demand3}
+use Rattle.promises.specs.Newick.{Newick}
 use Rattle.promises.specs.Together.{AllDemands}
 use Rattle.promises.proofs.Accepted.{accepts}
 use Rattle.promises.proofs.Built.{good-built}
@@ -28,6 +31,7 @@ use Rattle.promises.proofs.Chosen.{chosen}
 use Rattle.promises.proofs.Entered.{good-entered}
 use Rattle.promises.proofs.Listed.{good-listed}
 use Rattle.promises.proofs.Ordered.{good-ordered}
+use Rattle.promises.proofs.Parsed.{good-parsed}
 use Rattle.promises.proofs.Rebuilt.{full-known, full-rebuilt}
 
 -- Every bad input gets the numbered refusal of the stated order, and a refused call leaves what was lent as it was.
@@ -39,6 +43,7 @@ demand1 = record {
   ordering = λ n b o. chosen orderTold Ordering.the-variants.Done Ordering.the-variants.Refused (record { nodes = nodes b .count }) refl (λ x. refl) (orderLooks n b (length o)) _ o;
   building = λ n t o. chosen buildTold Building.the-variants.Done Building.the-variants.Refused (record { nodes = nodesIn (outcome n t) }) refl (λ x. refl) (buildLooks n t (length o)) _ o;
   checking = λ n t b. check-told (firstRefusal (checkLooks n t b));
+  parsing = λ n w o. chosen parseTold Parsing.the-variants.Done Parsing.the-variants.Refused (parseDone w) refl (λ x. refl) (parseLooks n w (length o)) _ o;
 }
 
 -- Input is refused exactly when it is not good: of any operations that keep demand 1, and so of these.
@@ -64,6 +69,10 @@ demand3 = record {
   rebuilt = λ n b t o c f l room. full-rebuilt n b c f o room t l;
 }
 
--- All three, of one and the same six operations.
+-- All three, of one and the same operations.
 pub all-demands : AllDemands koodhaxil
 all-demands = (demand1, demand2, demand3)
+
+-- A Newick text of the form, within the limits, is read as its tree, in its order; every other one is refused at its place.
+pub newick : Newick koodhaxil
+newick = record { parsing = good-parsed }

@@ -13,6 +13,7 @@ use Rattle.collections.specs.Reads.{countValues, countsOf, readLooks}
 use Rattle.listing.specs.Lists.{listLooks}
 use Rattle.entering.specs.Enters.{enterLooks}
 use Rattle.ordering.specs.Orders.{orderLooks}
+use Rattle.parsing.specs.Parses.{parseLooks, textBody}
 use Rattle.building.specs.Builds.{buildLooks, nodesIn, outcome}
 use Rattle.checking.specs.Checks.{checkLooks}
 use Rattle.promises.specs.Operations.{Given, Operations}
@@ -30,3 +31,4 @@ pub record Demand1 (L : Operations) : Type 0 where
   pub ordering : (n : ℕ) (b o : List ℕ) → Chosen (orderLooks n b (length o)) (value node-count (nodes b .count) ∷ []) o (L .order n b o)
   pub building : (n : ℕ) (t o : List ℕ) → Chosen (buildLooks n t (length o)) (value node-count (nodesIn (outcome n t)) ∷ []) o (L .build n t o)
   pub checking : (n : ℕ) (t b : List ℕ) → L .check n t b ≡ lookTold (firstRefusal (checkLooks n t b)) []
+  pub parsing : (n : ℕ) (w o : List ℕ) → Chosen (parseLooks n w (length o)) (value node-count (nodes (textBody w) .count) ∷ []) o (L .parse n w o)

@@ -5,7 +5,10 @@ use mathlib.Core.Path.{_≡_}
 use Prim.Native.Nat.{ℕ, _<_, _≤_}
 use lib.ListN.{getD, length}
 use Rattle.tables.specs.Index.{C}
-use Rattle.bodies.specs.Nodes.{roomFor}
+use Rattle.trees.specs.Trees.{Tree}
+use Rattle.bodies.specs.Draws.{bodyOf}
+use Rattle.bodies.specs.Nodes.{Good, nodes, roomFor}
+use Rattle.newick.specs.Texts.{Readable}
 use Rattle.answers.specs.Inputs.{Body, Count, Table}
 use Rattle.collections.specs.Collection.{Collection}
 use Rattle.collections.specs.Layout.{species}
@@ -48,3 +51,11 @@ pub record Checkable (n : ℕ) (t b : List ℕ) : Type 0 where
   pub count : Count n
   pub table : Table n t
   pub body : Body n b
+
+-- request T-01: "2; then 14 with the byte place [..]; then 6; then 9 where the room is shorter than the body"
+pub record Parsable (n : ℕ) (w o : List ℕ) : Type 0 where
+  pub count : Count n
+  pub tree : Tree
+  pub text : Readable w tree
+  pub rules : Good n (nodes (bodyOf tree))
+  pub room : length (bodyOf tree) ≤ length o

@@ -5,6 +5,7 @@ pub mod Demand1
 pub mod Demand2
 pub mod Accepts
 pub mod Demand3
+pub mod Newick
 pub mod Together
 pub mod Useless
 pub mod Tied

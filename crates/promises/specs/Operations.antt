@@ -7,6 +7,7 @@ use Rattle.collections.specs.Reads.{readAnswer, readTold}
 use Rattle.listing.specs.Lists.{listAfter, listAnswer}
 use Rattle.entering.specs.Enters.{enterAfter, enterAnswer, enterTold}
 use Rattle.ordering.specs.Orders.{orderAfter, orderAnswer, orderTold}
+use Rattle.parsing.specs.Parses.{parseAfter, parseAnswer, parseTold}
 use Rattle.building.specs.Builds.{buildAfter, buildAnswer, buildTold}
 use Rattle.checking.specs.Checks.{checkAnswer, checkTold}
 
@@ -38,6 +39,10 @@ Orderer = ℕ → List ℕ → List ℕ → Given
 abbrev pub Builder : Type 0
 Builder = ℕ → List ℕ → List ℕ → Given
 
+-- from n, a Newick text, and lent room
+abbrev pub Parser : Type 0
+Parser = ℕ → List ℕ → List ℕ → Given
+
 -- from n, a table and a body
 abbrev pub Checker : Type 0
 Checker = ℕ → List ℕ → List ℕ → Told
@@ -49,6 +54,7 @@ pub record Operations : Type 0 where
   pub order : Orderer
   pub build : Builder
   pub check : Checker
+  pub parse : Parser
 
 -- ---- ours: by the contract of each public function, what it answers and leaves is this and nothing else (`at-most-one` of `answers`)
 
@@ -70,5 +76,8 @@ builds n t o = record { told = buildTold (buildAnswer n t (length o)); after = b
 abbrev pub checks : Checker
 checks n t b = checkTold (checkAnswer n t b)
 
+abbrev pub parses : Parser
+parses n w o = record { told = parseTold (parseAnswer n w (length o)); after = parseAfter n w o }
+
 abbrev pub koodhaxil : Operations
-koodhaxil = record { read = reads; list = lists; enter = enters; order = orders; build = builds; check = checks }
+koodhaxil = record { read = reads; list = lists; enter = enters; order = orders; build = builds; check = checks; parse = parses }

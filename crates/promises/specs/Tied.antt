@@ -24,6 +24,8 @@ use Rattle.building.proofs.build as build
 use Rattle.building.specs.Builds.{buildTold}
 use Rattle.checking.proofs.check as check
 use Rattle.checking.specs.Checks.{checkTold}
+use Rattle.parsing.proofs.parse as parse
+use Rattle.parsing.specs.Parses.{parseTold}
 use Rattle.promises.specs.Operations.{Operations, gives}
 
 -- a contract, as the kit has it of the source: in any model of the logic, over the arguments, the result, and what the arguments hold at exit
@@ -43,3 +45,4 @@ pub record Tied (L : Operations) : Type 2 where
   pub ordering : After order.ended (λ M. order.clauses) (λ κs a r s. gives (orderTold r) (s .1 .1 .0 .now) ≡ L .order (a .0) (a .1 .0 .now) (a .1 .1 .0 .now))
   pub building : After build.ended (λ M. build.clauses) (λ κs a r s. gives (buildTold r) (s .1 .1 .0 .now) ≡ L .build (a .0) (a .1 .0 .now) (a .1 .1 .0 .now))
   pub checking : After check.ended (λ M. check.clauses) (λ κs a r s. checkTold r ≡ L .check (a .0) (a .1 .0 .now) (a .1 .1 .0 .now))
+  pub parsing : After parse.ended (λ M. parse.clauses) (λ κs a r s. gives (parseTold r) (s .1 .1 .0 .now) ≡ L .parse (a .0) (a .1 .0 .now) (a .1 .1 .0 .now))

@@ -10,7 +10,7 @@ use Rattle.promises.specs.Demand1.{Demand1}
 use Rattle.promises.specs.Demand2.{Demand2, front}
 use Rattle.promises.specs.Demand3.{Demand3}
 
--- all three demands, of one and the same six operations
+-- all three demands, of one and the same operations
 abbrev pub AllDemands : Operations → Type 0
 AllDemands L = Demand1 L × Demand2 L × Demand3 L
 

@@ -15,13 +15,15 @@ use Rattle.answers.proofs.Answered.{number-zero}
 use Rattle.answers.specs.Refusals.{refusalTold}
 use Rattle.answers.specs.declared.Look.the-variants.{Pass, Refuse}
 use Rattle.answers.specs.declared.Refusal.{Refusal}
-use Rattle.answers.specs.declared.Refusal.the-variants.{BadByte, BadCounts, BadLength, BadRecord, BadTable, BadTree, BadVersion, Contradicted, EndsEarly, LeftOver, NoTree, ShortRoom, Unforced}
+use Rattle.answers.specs.declared.Refusal.the-variants.{BadByte, BadCounts, BadLength, BadRecord, BadTable, BadText, BadTree, BadVersion, Contradicted, EndsEarly, LeftOver, NoTree, ShortRoom, Unforced}
 use Rattle.collections.specs.Reads.{readTold}
 use Rattle.collections.specs.declared.Answer as Reading
 use Rattle.entering.specs.Enters.{enterTold}
 use Rattle.entering.specs.declared.Answer as Entering
 use Rattle.ordering.specs.Orders.{orderTold}
 use Rattle.ordering.specs.declared.Answer as Ordering
+use Rattle.parsing.specs.Parses.{parseTold}
+use Rattle.parsing.specs.declared.Answer as Parsing
 use Rattle.building.specs.Builds.{buildTold}
 use Rattle.building.specs.declared.Answer as Building
 use Rattle.checking.specs.Checks.{checkTold}
@@ -67,7 +69,8 @@ refusalIn p =
     (cond (eqb (p .number) 10) (NoTree (numberAt 0 p))
     (cond (eqb (p .number) 11) (Contradicted (record { index = numberAt 0 p; byte = numberAt 1 p }))
     (cond (eqb (p .number) 12) (Unforced (numberAt 0 p))
-    (BadRecord (numberAt 0 p)))))))))))))
+    (cond (eqb (p .number) 13) (BadRecord (numberAt 0 p))
+    (BadText (numberAt 0 p))))))))))))))
 
 refusal-found : (x : Refusal) → refusalIn (plain (refusalTold x)) ≡ x
 refusal-found BadVersion = refl
@@ -83,6 +86,7 @@ refusal-found (NoTree u) = refl
 refusal-found (Contradicted x) = refl
 refusal-found (Unforced i) = refl
 refusal-found (BadRecord i) = refl
+refusal-found (BadText p) = refl
 
 pub refusal-apart : ToldApart refusalTold
 refusal-apart = found-apart (λ (x : Refusal). plain (refusalTold x)) refusalIn refusal-found
@@ -132,6 +136,16 @@ order-found (Ordering.the-variants.Refused x) = refused-found orderBack Ordering
 
 pub order-apart : ToldApart orderTold
 order-apart = found-apart (λ (a : Ordering.Answer). plain (orderTold a)) (answerIn orderBack Ordering.the-variants.Refused) order-found
+
+abbrev parseBack : Plain → Parsing.Answer
+parseBack p = Parsing.the-variants.Done (record { nodes = numberAt 0 p })
+
+parse-found : (a : Parsing.Answer) → answerIn parseBack Parsing.the-variants.Refused (plain (parseTold a)) ≡ a
+parse-found (Parsing.the-variants.Done w) = refl
+parse-found (Parsing.the-variants.Refused x) = refused-found parseBack Parsing.the-variants.Refused x
+
+pub parse-apart : ToldApart parseTold
+parse-apart = found-apart (λ (a : Parsing.Answer). plain (parseTold a)) (answerIn parseBack Parsing.the-variants.Refused) parse-found
 
 abbrev buildBack : Plain → Building.Answer
 buildBack p = Building.the-variants.Done (record { nodes = numberAt 0 p })

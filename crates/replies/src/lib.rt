@@ -4,6 +4,7 @@ ghost use Rattle.answers.specs.Refusals.{refusalTold};
 ghost use Rattle.collections.specs.Reads.{readTold};
 ghost use Rattle.entering.specs.Enters.{enterTold};
 ghost use Rattle.ordering.specs.Orders.{orderTold};
+ghost use Rattle.parsing.specs.Parses.{parseTold};
 ghost use Rattle.building.specs.Builds.{buildTold};
 ghost use Rattle.checking.specs.Checks.{checkTold};
 ghost use Rattle.replies.specs.Plain.{plain};
@@ -35,6 +36,7 @@ fn refusal(x: answers::Refusal) -> Reply
         answers::Refusal::Contradicted(c) => Reply::Two(11, c.index, c.byte as usize),
         answers::Refusal::Unforced(i) => Reply::One(12, i),
         answers::Refusal::BadRecord(i) => Reply::One(13, i),
+        answers::Refusal::BadText(p) => Reply::One(14, p),
     }
 }
 
@@ -65,6 +67,16 @@ pub fn order(a: ordering::Answer) -> Reply
     match a {
         ordering::Answer::Done(w) => Reply::One(0, w.nodes),
         ordering::Answer::Refused(x) => refusal(x),
+    }
+}
+
+// The reply to an answer of reading a Newick text.
+pub fn parse(a: parsing::Answer) -> Reply
+    ensures { λ r. ⌜ replied r ≡ plain (parseTold a) ⌝ }
+{
+    match a {
+        parsing::Answer::Done(w) => Reply::One(0, w.nodes),
+        parsing::Answer::Refused(x) => refusal(x),
     }
 }
 

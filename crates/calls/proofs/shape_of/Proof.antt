@@ -24,6 +24,9 @@ row-requires-5 c κs = search needs
 row-requires-6 : tie.Need-row-requires-6
 row-requires-6 c κs = search needs
 
+row-requires-7 : tie.Need-row-requires-7
+row-requires-7 c κs = search needs
+
 returns : tie.Need-returns
 unfolding shape
 returns c = shape-same (c .before .match .keys1) (c .row .ensures) (omega arith)
@@ -49,7 +52,13 @@ unfolding shape
 returns-6 c = shape-same (c .before .match .keys6) (c .row6 .ensures) (omega arith)
 
 returns-7 : tie.Need-returns-7
-returns-7 c = let k = c .match .rest in (shape-unknown (c .before .args .byte) (k .0 .0 .0 .0 .0 .1) (k .0 .0 .0 .0 .1) (k .0 .0 .0 .1) (k .0 .0 .1) (k .0 .1) (k .1), omega arith)
+unfolding shape
+returns-7 c = shape-same (c .before .match .keys7) (c .row7 .ensures) (omega arith)
+
+returns-8 : tie.Need-returns-8
+returns-8 c =
+    let k = c .match .rest in
+    (shape-unknown (c .before .args .byte) (k .0 .0 .0 .0 .0 .0 .1) (k .0 .0 .0 .0 .0 .1) (k .0 .0 .0 .0 .1) (k .0 .0 .0 .1) (k .0 .0 .1) (k .0 .1) (k .1), omega arith)
 
 pub shape-of-spec : {M : Type 1} → statement M
 shape-of-spec =
@@ -61,10 +70,12 @@ shape-of-spec =
     row-requires-4
     row-requires-5
     row-requires-6
+    row-requires-7
     returns
     returns-2
     returns-3
     returns-4
     returns-5
     returns-6
-    returns-7)
+    returns-7
+    returns-8)

@@ -38,14 +38,17 @@ enum-known-x-6 c = search needs
 enum-known-x-7 : tie.Need-enum-known-x-7
 enum-known-x-7 c = search needs
 
-cast-t13 : tie.Need-cast-t13
-cast-t13 c = search needs
+cast-t14 : tie.Need-cast-t14
+cast-t14 c = search needs
 
 enum-known-x-8 : tie.Need-enum-known-x-8
 enum-known-x-8 c = search needs
 
 enum-known-x-9 : tie.Need-enum-known-x-9
 enum-known-x-9 c = search needs
+
+enum-known-x-10 : tie.Need-enum-known-x-10
+enum-known-x-10 c = search needs
 
 returns : tie.Need-returns
 returns c = reply-as refusalTold (c .enum-told .given .1)
@@ -86,6 +89,9 @@ returns-12 c = reply-as refusalTold (c .before .x8 .given .1)
 returns-13 : tie.Need-returns-13
 returns-13 c = reply-as refusalTold (c .before .x9 .given .1)
 
+returns-14 : tie.Need-returns-14
+returns-14 c = reply-as refusalTold (c .before .x10 .given .1)
+
 pub refusal-spec : {M : Type 1} → statement M
 refusal-spec =
     tie.close
@@ -101,9 +107,10 @@ refusal-spec =
     enum-told-4
     enum-known-x-6
     enum-known-x-7
-    cast-t13
+    cast-t14
     enum-known-x-8
     enum-known-x-9
+    enum-known-x-10
     returns
     returns-2
     returns-3
@@ -116,4 +123,5 @@ refusal-spec =
     returns-10
     returns-11
     returns-12
-    returns-13)
+    returns-13
+    returns-14)

@@ -19,6 +19,9 @@ order-line-requires c κs = search needs
 build-line-requires : tie.Need-build-line-requires
 build-line-requires c κs = search needs
 
+parse-line-requires : tie.Need-parse-line-requires
+parse-line-requires c κs = search needs
+
 check-line-requires : tie.Need-check-line-requires
 check-line-requires c κs = search needs
 
@@ -85,9 +88,20 @@ same-length-12 c = search needs
 
 returns-6 : tie.Need-returns-6
 returns-6 c =
+    let s = c .before .before .before .before .before .before .before .before .before .before .before in
+    line-same _ 110 (s .args .n) (s .args .first .now) (s .args .second .now) (c .before .before .before .before .before .before .before .match .keys6) (c .before .before .before .before .parse-line .ensures .0)
+
+same-length-13 : tie.Need-same-length-13
+same-length-13 c = search needs
+
+same-length-14 : tie.Need-same-length-14
+same-length-14 c = search needs
+
+returns-7 : tie.Need-returns-7
+returns-7 c =
     let s = c .before .before .before .before .before .before .before .before .before in
     let k = c .before .before .before .before .before .match .rest in
-    line-check (s .args .byte) (s .args .n) (s .args .first .now) (s .args .second .now) (k .0 .0 .0 .0 .1) (k .0 .0 .0 .1) (k .0 .0 .1) (k .0 .1) (k .1) (c .before .before .check-line .ensures)
+    line-check (s .args .byte) (s .args .n) (s .args .first .now) (s .args .second .now) (k .0 .0 .0 .0 .0 .1) (k .0 .0 .0 .0 .1) (k .0 .0 .0 .1) (k .0 .0 .1) (k .0 .1) (k .1) (c .before .before .check-line .ensures)
 
 pub call-line-spec : {M : Type 1} → statement M
 call-line-spec =
@@ -98,6 +112,7 @@ call-line-spec =
     enter-line-requires
     order-line-requires
     build-line-requires
+    parse-line-requires
     check-line-requires
     same-length
     returns
@@ -116,4 +131,7 @@ call-line-spec =
     returns-5
     same-length-11
     same-length-12
-    returns-6)
+    returns-6
+    same-length-13
+    same-length-14
+    returns-7)
