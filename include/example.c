@@ -64,7 +64,7 @@ int main(void)
     static const koodhaxil_triplet more[] = { { 0, 1, 2 }, { 4, 3, 2 } };
     static const char whole[] = "((3:1,(5:0.5,4:0.5):0.5):2, (1:0.2,0:0.2):2.8);", cut[] = "((0,1),(3,(4,5";
     uint8_t table[KOODHAXIL_TABLE(N)], before[KOODHAXIL_TABLE(N)];
-    uint8_t tree[KOODHAXIL_ROOM(N)], again[KOODHAXIL_ROOM(N)];
+    uint8_t tree[KOODHAXIL_ROOM(N)], again[KOODHAXIL_ROOM(N)], text[KOODHAXIL_TEXT_ROOM];
     size_t values[KOODHAXIL_VALUES];
     size_t number, nodes, species;
 
@@ -109,6 +109,9 @@ int main(void)
     printf("%s is read: ", whole);
     print_tree(again, nodes, 0);
     printf(", %zu nodes\n", nodes);
+    number = koodhaxil_render(N, again, 2 * nodes, text, sizeof text, values, KOODHAXIL_VALUES);
+    if (number != KOODHAXIL_DONE) return unexpected("writing a text", number);
+    printf("and is written as %.*s\n", (int)values[0], (const char *)text);
     number = koodhaxil_parse(N, (const uint8_t *)cut, strlen(cut), again, sizeof again, values, KOODHAXIL_VALUES);
     if (number != KOODHAXIL_BAD_TEXT) return unexpected("reading a text", number);
     printf("%s is refused with %zu at byte %zu\n", cut, number, values[0]);

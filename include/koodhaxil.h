@@ -43,7 +43,7 @@
  * - What is lent for writing (a pointer that is not const) overlaps nothing else that is handed to the same call. What is only read may overlap.
  * - No other thread writes what is lent, or reads what is lent for writing, before the call returns. Calls that share no such memory may run at the
  *   same time.
- * - There is stack: on x86-64 some 98 KiB for checking, 52 for building, 34 for listing, and below 10 for the others.
+ * - There is stack: on x86-64 some 98 KiB for checking, 52 for building, 34 for listing, and below 11 for the others.
  *
  *
  * WHAT A FUNCTION ANSWERS
@@ -54,7 +54,7 @@
  * koodhaxil_triple is no operation but a question, answered 1 for yes and 0 for no.
  *
  * A refusal changes no byte of a table or a room. On 0, listing and entering fill the whole table, whatever it held; house order, building
- * and reading a text write a body to the front of the room and change nothing behind it.
+ * and reading a text write a body to the front of the room, and writing a text that text, and change nothing behind it.
  */
 #ifndef KOODHAXIL_H
 #define KOODHAXIL_H
@@ -69,7 +69,8 @@ extern "C" {
 /* The numbers, and behind each one what is laid into `values`. A tree number is 0 where there is only one body. */
 enum koodhaxil_number {
     KOODHAXIL_DONE = 0,          /* done                                               read, list: n, tree count; enter: n; */
-                                 /*                                                    order, build, parse: node count; check: nothing */
+                                 /*                                                    order, build, parse: node count; check: nothing; */
+                                 /*                                                    render: length of the text */
     KOODHAXIL_BAD_VERSION = 1,   /* the version byte is not 1                          nothing */
     KOODHAXIL_BAD_COUNTS = 2,    /* n is 0 or over 64, or there are over 16 trees      nothing */
     KOODHAXIL_ENDS_EARLY = 3,    /* the bytes end early                                tree number, 0 for the header */
@@ -109,6 +110,9 @@ enum koodhaxil_fault {
 #define KOODHAXIL_MOST_OPEN 63
 #define KOODHAXIL_MOST_NODES 127
 #define KOODHAXIL_LARGEST_SPECIES 254
+
+/* Room that is long enough for the Newick text of any tree: a tree of 64 species has one of as many bytes, and none has a longer one. */
+#define KOODHAXIL_TEXT_ROOM 308
 
 /* Places of `values` for the longest answer. */
 #define KOODHAXIL_VALUES 4
@@ -185,6 +189,15 @@ size_t koodhaxil_check(size_t n, const uint8_t *table, size_t table_length, cons
  */
 size_t koodhaxil_parse(size_t n, const uint8_t *text, size_t text_length, uint8_t *room, size_t room_length, size_t *values,
                        size_t values_length);
+
+/*
+ * Writes a tree as Newick text, without lengths or blanks, its children by their lowest species, with a semicolon at the end and no byte 0 behind it: to
+ * the front of the room, which is as long as the text or longer. The body need not be in house order. Two good trees have the same groups exactly when
+ * these texts are equal; and koodhaxil_parse, with the same n, reads the text back into the house-order body.
+ * Refusals: 2, 5, 6, 9.
+ */
+size_t koodhaxil_render(size_t n, const uint8_t *body, size_t body_length, uint8_t *room, size_t room_length, size_t *values,
+                        size_t values_length);
 
 /*
  * The way back from KOODHAXIL_INDEX: is there a triple with this index, as 11 and 12 give one? 1 for yes: its species a < b < c are laid into

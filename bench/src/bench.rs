@@ -13,6 +13,7 @@ use std::time::Duration;
 const N: usize = 64;
 const TABLE: usize = 41_664;
 const BODY: usize = 254;
+const TEXT: usize = 308;
 const TWIN_LIMIT: f64 = 1.3;
 const ORDER_LIMIT: f64 = 1.5;
 const TREES_LIMIT: f64 = 17.0;
@@ -20,8 +21,8 @@ const CHECK_GUIDES: [f64; 4] = [10.0, 20.0, 10.0, 50.0];
 const ROUNDS: usize = 61;
 const SAMPLE: Duration = Duration::from_micros(1_000);
 
-// The operations of one side, the library or the twin. Putting in house order, building and reading a text go from n and a body, a table or a text
-// to a body.
+// The operations of one side, the library or the twin. Putting in house order, building, reading a text and writing one go from n and a body, a table
+// or a text to a body or a text.
 struct Side {
     read: fn(&[u8], &mut [usize]) -> usize,
     list: fn(&[u8], &mut [u8], &mut [usize]) -> usize,
@@ -30,6 +31,7 @@ struct Side {
     build: fn(usize, &[u8], &mut [u8], &mut [usize]) -> usize,
     check: fn(usize, &[u8], &[u8], &mut [usize]) -> usize,
     parse: fn(usize, &[u8], &mut [u8], &mut [usize]) -> usize,
+    render: fn(usize, &[u8], &mut [u8], &mut [usize]) -> usize,
 }
 
 const LIBRARY: Side = Side {
@@ -40,6 +42,7 @@ const LIBRARY: Side = Side {
     build: boundary::build,
     check: boundary::check,
     parse: boundary::parse,
+    render: boundary::render,
 };
 
 const TWIN: Side = Side {
@@ -50,6 +53,7 @@ const TWIN: Side = Side {
     build: twin::build,
     check: twin::check,
     parse: twin::parse,
+    render: twin::render,
 };
 
 // A tree of 64 species, its text, the table of its triplets, these triplets as records, and the collections of the tree once and 16 times.
@@ -109,7 +113,7 @@ fn told(lent: usize, call: impl FnOnce(&mut [u8], &mut [usize]) -> usize) -> Tol
 }
 
 // What one side tells of a run. Every table that is filled has to be the run's own, and the tree built from it the tree in house order; so has
-// the body read from the text, once it is put in house order.
+// the body read from the text, once it is put in house order, and the body read from the text that is written.
 fn answers(side: &Side, run: &Run) -> Option<Vec<Told>> {
     let reads = [&run.one, &run.sixteen].map(|bytes| told(0, |_, values| (side.read)(bytes, values)));
     let lists = [&run.one, &run.sixteen].map(|bytes| told(TABLE, |table, values| (side.list)(bytes, table, values)));
@@ -119,9 +123,12 @@ fn answers(side: &Side, run: &Run) -> Option<Vec<Told>> {
     let parsed = told(BODY, |room, values| (side.parse)(N, &run.text, room, values));
     let body = parsed.2.get(..2 * parsed.1[0]).unwrap_or_default();
     let housed = told(BODY, |room, values| (side.order)(N, body, room, values));
+    let rendered = told(TEXT, |room, values| (side.render)(N, &run.tree, room, values));
+    let written = rendered.2.get(..rendered.1[0]).unwrap_or_default();
+    let again = told(BODY, |room, values| (side.parse)(N, written, room, values));
     let filled = lists.iter().chain([&entered]).all(|(_, _, table)| *table == run.table);
-    let same = ordered == built && ordered == housed;
-    let all: Vec<Told> = reads.into_iter().chain(lists).chain([entered, ordered, built, parsed]).collect();
+    let same = ordered == built && ordered == housed && ordered == again;
+    let all: Vec<Told> = reads.into_iter().chain(lists).chain([entered, ordered, built, parsed, rendered]).collect();
     (filled && same && all.iter().all(|(number, ..)| *number == 0)).then_some(all)
 }
 
@@ -272,6 +279,11 @@ fn parsing<'a>(side: &Side, text: &'a [u8]) -> impl FnMut() + 'a {
     filling(BODY, move |room, values| parse(N, black_box(text), room, values))
 }
 
+fn rendering<'a>(side: &Side, tree: &'a [u8]) -> impl FnMut() + 'a {
+    let render = side.render;
+    filling(TEXT, move |room, values| render(N, black_box(tree), room, values))
+}
+
 fn checking<'a>(side: &Side, candidate: &'a Candidate) -> impl FnMut() + 'a {
     let check = side.check;
     let mut values = [0; 4];
@@ -314,6 +326,9 @@ fn main() {
     }
     for run in &runs {
         table.twins("parse", &format!("{}, a text of {} bytes", run.name, run.text.len()), TWIN_LIMIT, |side| parsing(side, &run.text));
+    }
+    for run in &runs {
+        table.twins("render", run.name, TWIN_LIMIT, |side| rendering(side, &run.tree));
     }
     println!();
     println!("bench: {}", if table.met { "every limit is met" } else { "a limit is NOT MET" });

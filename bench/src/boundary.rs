@@ -24,6 +24,8 @@ extern "C" {
 
     fn koodhaxil_parse(n: usize, text: *const u8, text_len: usize, room: *mut u8, room_len: usize, values: *mut usize, values_len: usize) -> usize;
 
+    fn koodhaxil_render(n: usize, body: *const u8, body_len: usize, room: *mut u8, room_len: usize, values: *mut usize, values_len: usize) -> usize;
+
     fn koodhaxil_triple(index: usize, values: *mut usize, values_len: usize) -> usize;
 }
 
@@ -67,6 +69,12 @@ pub fn check(n: usize, t: &[u8], body: &[u8], values: &mut [usize]) -> usize {
 pub fn parse(n: usize, text: &[u8], room: &mut [u8], values: &mut [usize]) -> usize {
     // SAFETY: as above.
     unsafe { koodhaxil_parse(n, text.as_ptr(), text.len(), room.as_mut_ptr(), room.len(), values.as_mut_ptr(), values.len()) }
+}
+
+/// Writes the tree of a body over `n` species as Newick text, into the front of `room`: the number and the values as for `read`.
+pub fn render(n: usize, body: &[u8], room: &mut [u8], values: &mut [usize]) -> usize {
+    // SAFETY: as above.
+    unsafe { koodhaxil_render(n, body.as_ptr(), body.len(), room.as_mut_ptr(), room.len(), values.as_mut_ptr(), values.len()) }
 }
 
 /// Is there a triple with this index? 1 with its three species laid into `values`, or 0.

@@ -61,12 +61,19 @@ pub fn enter(n: usize, records: &[[u8; 3]], room: usize) -> (Told, Option<Vec<u8
     }
 }
 
-// The node count, and what is written to the front of the room.
-fn written(answer: Result<usize, Refusal>, mut room: Vec<u8>) -> (Told, Option<Vec<u8>>) {
-    match answer {
-        Ok(nodes) => {
-            room.truncate(2 * nodes);
-            (told(0, &[nodes]), Some(room))
+// What an operation tells that writes to a room of so many bytes and returns a count, of nodes or of bytes; and what it writes to the front.
+fn written(
+    operation: fn(u64, &[u8], &mut [u8]) -> Result<usize, Refusal>,
+    n: usize,
+    from: &[u8],
+    room: usize,
+    bytes_each: usize,
+) -> (Told, Option<Vec<u8>>) {
+    let mut room = vec![0; room];
+    match operation(n as u64, from, &mut room) {
+        Ok(count) => {
+            room.truncate(bytes_each * count);
+            (told(0, &[count]), Some(room))
         }
         Err(refusal) => (refused(refusal), None),
     }
@@ -74,20 +81,22 @@ fn written(answer: Result<usize, Refusal>, mut room: Vec<u8>) -> (Told, Option<V
 
 /// What putting a body over `n` species in house order tells, with `room` bytes to write to, and what is written to their front.
 pub fn order(n: usize, body: &[u8], room: usize) -> (Told, Option<Vec<u8>>) {
-    let mut room = vec![0; room];
-    written(operations::order(n as u64, body, &mut room), room)
+    written(operations::order, n, body, room, 2)
 }
 
 /// What building from a table over `n` species tells, with `room` bytes to write to, and what is written to their front.
 pub fn build(n: usize, table: &[u8], room: usize) -> (Told, Option<Vec<u8>>) {
-    let mut room = vec![0; room];
-    written(operations::build(n as u64, table, &mut room), room)
+    written(operations::build, n, table, room, 2)
 }
 
 /// What reading a Newick text over `n` species tells, with `room` bytes to write to, and what is written to their front.
 pub fn parse(n: usize, text: &[u8], room: usize) -> (Told, Option<Vec<u8>>) {
-    let mut room = vec![0; room];
-    written(operations::parse(n as u64, text, &mut room), room)
+    written(operations::parse, n, text, room, 2)
+}
+
+/// What writing a body over `n` species as Newick text tells, with `room` bytes to write to, and what is written to their front.
+pub fn render(n: usize, body: &[u8], room: usize) -> (Told, Option<Vec<u8>>) {
+    written(operations::render, n, body, room, 1)
 }
 
 /// What checking a body against a table over `n` species tells.

@@ -31,6 +31,8 @@ mod trees;
 #[allow(dead_code)]
 #[path = "../../second/src/triples.rs"]
 mod triples;
+#[path = "../../second/src/writer.rs"]
+mod writer;
 
 use plain::Told;
 use random::Random;
@@ -61,6 +63,7 @@ enum Call<'a> {
     // A table and a body, which are only read.
     Check(usize, &'a [u8], &'a [u8]),
     Parse(usize, &'a [u8], usize),
+    Render(usize, &'a [u8], usize),
     // An index; its answer, yes or no, is the number.
     Triple(usize),
 }
@@ -85,7 +88,8 @@ impl Tally {
     fn call(&mut self, name: &str, call: Call, places: usize, told: &Told, filled: Option<&[u8]>) {
         let room = match call {
             Call::Read(_) | Call::Check(..) | Call::Triple(_) => 0,
-            Call::List(_, room) | Call::Enter(_, _, room) | Call::Order(_, _, room) | Call::Build(_, _, room) | Call::Parse(_, _, room) => room,
+            Call::List(_, room) | Call::Enter(_, _, room) | Call::Build(_, _, room) => room,
+            Call::Order(_, _, room) | Call::Parse(_, _, room) | Call::Render(_, _, room) => room,
         };
         let mut values: Vec<usize> = (0..places).map(|i| 9_000_000_000 + i).collect();
         let mut lent: Vec<u8> = (0..room).map(|i| (i % 251) as u8 ^ 0xa5).collect();
@@ -107,6 +111,7 @@ impl Tally {
             Call::Build(n, table, _) => boundary::build(n, table, &mut lent, &mut values),
             Call::Check(n, table, _) => boundary::check(n, &lent[..table.len()], &lent[table.len()..], &mut values),
             Call::Parse(n, text, _) => boundary::parse(n, text, &mut lent, &mut values),
+            Call::Render(n, body, _) => boundary::render(n, body, &mut lent, &mut values),
             Call::Triple(index) => boundary::triple(index, &mut values),
         };
         // The compiler would take it that what is only read stays as it was.
@@ -176,6 +181,12 @@ impl Tally {
         }
     }
 
+    fn rendered(&mut self, n: usize, body: &[u8], text: &str) {
+        for more in [0, 1, 2, 300] {
+            self.calls(text, Call::Render(n, body, text.len() + more), 0, &[text.len()], Some(text.as_bytes()));
+        }
+    }
+
     // A text that is refused whatever the room.
     fn text_refused(&mut self, n: usize, text: &[u8], number: usize, values: &[usize]) {
         for room in [0, 2, 300] {
@@ -226,6 +237,7 @@ fn show(name: &str, call: Call, places: usize, wanted: &Outcome, got: &Outcome) 
         Call::Build(n, table, room) => (format!("build, n {n}, room of {room} bytes"), table.len(), start(table)),
         Call::Check(n, table, body) => (format!("check, n {n}, body {}", start(body)), table.len(), start(table)),
         Call::Parse(n, text, room) => (format!("parse, n {n}, room of {room} bytes"), text.len(), format!("{:?}", String::from_utf8_lossy(text))),
+        Call::Render(n, body, room) => (format!("render, n {n}, room of {room} bytes"), body.len(), start(body)),
         Call::Triple(index) => (format!("triple, index {index}"), 0, String::new()),
     };
     println!("  call: {what}, {places} places for values");
@@ -491,13 +503,14 @@ fn nested_house() -> Vec<u8> {
 // ((0,1),2,(3,(4,5))), of document 01's run with n = 6.
 const SIX: [u8; 20] = [255, 255, 0, 255, 1, 0, 1, 1, 0, 2, 0, 255, 5, 3, 5, 255, 7, 4, 7, 5];
 
-fn bodies_refused(tally: &mut Tally) {
+// Bodies that are refused whatever the room, by house order and by the writing of text.
+fn bodies_refused(tally: &mut Tally, what: &str, call: fn(usize, &[u8], usize) -> Call) {
     // An empty body, an odd one, a broken one and a good one: n comes first.
     let bodies: [&[u8]; 4] = [&[], &[255, 0, 0], &[9, 9], &LADDER];
     for n in BAD_COUNTS {
         for body in bodies {
             for room in [0, 13, 14, 300] {
-                tally.calls("n 0 or over 64", Call::Order(n, body, room), 2, &[], None);
+                tally.calls("n 0 or over 64", call(n, body, room), 2, &[], None);
             }
         }
     }
@@ -506,17 +519,21 @@ fn bodies_refused(tally: &mut Tally) {
     long.resize(65_538, 255);
     for length in BAD_LENGTHS {
         for room in [0, 2, length, 300] {
-            tally.calls("a body of a bad length", Call::Order(64, &long[..length], room), 5, &[0], None);
+            tally.calls("a body of a bad length", call(64, &long[..length], room), 5, &[0], None);
         }
     }
-    tally.calls("an odd length and a bad parent", Call::Order(4, &[9, 9, 9], 300), 5, &[0], None);
-    tally.calls("256 bytes of 0", Call::Order(4, &[0; 256], 300), 5, &[0], None);
+    tally.calls("an odd length and a bad parent", call(4, &[9, 9, 9], 300), 5, &[0], None);
+    tally.calls("256 bytes of 0", call(4, &[0; 256], 300), 5, &[0], None);
     // With no room at all a broken tree is still 6.
     for (name, n, body, [node, fault, carried]) in BROKEN {
         for room in [0, body.len() - 1, body.len(), 300] {
-            tally.calls(name, Call::Order(n as usize, body, room), 6, &[0, node, fault, carried], None);
+            tally.calls(name, call(n as usize, body, room), 6, &[0, node, fault, carried], None);
         }
     }
+    tally.end_part(&format!("bodies {what}, refused"));
+}
+
+fn bodies_without_room(tally: &mut Tally) {
     for room in [0, 1] {
         tally.calls("the lone leaf, room too short", Call::Order(64, &[255, 63], room), 9, &[], None);
     }
@@ -526,7 +543,7 @@ fn bodies_refused(tally: &mut Tally) {
     for room in [0, 2, 252, 253] {
         tally.calls("254 bytes, room too short", Call::Order(64, &nested_house(), room), 9, &[], None);
     }
-    tally.end_part("bodies to put in house order, refused");
+    tally.end_part("bodies to put in house order, room too short");
 }
 
 fn bodies_ordered(tally: &mut Tally) {
@@ -984,6 +1001,56 @@ fn texts_parsed(tally: &mut Tally) {
     tally.end_part("texts at the limits");
 }
 
+fn texts_without_room(tally: &mut Tally) {
+    // The body is short, or as long as the room, or much longer.
+    let rooms: [(&[u8], &[usize]); 6] = [
+        (&[255, 9], &[0, 1]),
+        (&[255, 63], &[0, 1, 2]),
+        (&[255, 255, 0, 1, 0, 0], &[0, 5]),
+        (&CLOSE, &[0, 8, 9]),
+        (&LADDER, &[0, 7, 12, 13]),
+        (&nested_house(), &[0, 1, 253, 254, 255, 300, 306, 307]),
+    ];
+    for (body, rooms) in rooms {
+        for &room in rooms {
+            tally.calls("room too short for the text", Call::Render(64, body, room), 9, &[], None);
+        }
+    }
+    tally.end_part("bodies to write as text, room too short");
+}
+
+fn texts_rendered(tally: &mut Tally) {
+    for (n, leaf, text) in [(1, 0, "0;"), (10, 9, "9;"), (11, 10, "10;"), (64, 19, "19;"), (64, 60, "60;"), (64, 63, "63;")] {
+        tally.rendered(n, &[255, leaf], text);
+    }
+    tally.rendered(2, &[255, 255, 0, 0, 0, 1], "(0,1);");
+    tally.rendered(2, &[255, 255, 0, 1, 0, 0], "(0,1);");
+    tally.rendered(64, &[255, 255, 0, 10, 0, 9], "(9,10);");
+    for [x, y, z] in [[0, 1, 2], [0, 2, 1], [1, 0, 2], [1, 2, 0], [2, 0, 1], [2, 1, 0]] {
+        tally.rendered(3, &[255, 255, 0, x, 0, y, 0, z], "(0,1,2);");
+    }
+    tally.rendered(3, &CLOSE, "((0,1),2);");
+    tally.rendered(3, &[255, 255, 0, 2, 0, 255, 2, 1, 2, 0], "((0,1),2);");
+    tally.rendered(3, &APART, "((0,2),1);");
+    tally.rendered(3, &HIGH, "(0,(1,2));");
+    tally.rendered(4, &LADDER, "(((0,1),2),3);");
+    tally.rendered(4, &[255, 255, 0, 255, 0, 3, 1, 2, 1, 255, 4, 1, 4, 0], "(((0,1),2),3);");
+    tally.rendered(4, &[255, 255, 0, 255, 0, 255, 1, 3, 2, 1, 1, 2, 2, 0], "((0,1),(2,3));");
+    tally.rendered(4, &[255, 255, 0, 1, 0, 255, 2, 3, 2, 255, 4, 2, 4, 0], "(((0,2),3),1);");
+    tally.rendered(4, &[255, 255, 0, 1, 0, 255, 2, 3, 2, 2, 2, 0], "((0,2,3),1);");
+    tally.rendered(6, &SIX, "((0,1),2,(3,(4,5)));");
+    tally.rendered(64, &[255, 255, 0, 63, 0, 255, 2, 62, 2, 5], "((5,62),63);");
+    // The longest text, and a fan of all species.
+    let all: Vec<u8> = (0..64).collect();
+    for body in [nested_house(), body(Shape::Nested, &all, &mut Dice(SEED))] {
+        tally.rendered(64, &body, &limits::ladder(63));
+    }
+    let falling: Vec<u8> = [255, 255].into_iter().chain((0..64).rev().flat_map(|s| [0, s])).collect();
+    let rising: Vec<String> = all.iter().map(u8::to_string).collect();
+    tally.rendered(64, &falling, &format!("({});", rising.join(",")));
+    tally.end_part("bodies written as text, texts written out");
+}
+
 // All ways to split the species into parts.
 fn splits(species: &[u8]) -> Vec<Vec<Vec<u8>>> {
     let Some((&last, others)) = species.split_last() else { return vec![vec![]] };
@@ -1212,10 +1279,11 @@ fn random_lists(tally: &mut Tally) {
 
 fn random_bodies(tally: &mut Tally) {
     let mut dice = Dice(SEED);
-    let mut answers = Answers::default();
+    let (mut answers, mut text_answers) = (Answers::default(), Answers::default());
     for _ in 0..BODIES {
         let mut n = random_n(&mut dice);
         let mut bytes = random_body(n, false, &mut dice);
+        let text_length = writer::length(&Tree::from_body(&bytes));
         let kind = match dice.below(16) {
             0..=8 => "good",
             9 => {
@@ -1228,8 +1296,13 @@ fn random_bodies(tally: &mut Tally) {
         let (told, house) = plain::order(n, &bytes, room);
         answers.count(&told);
         tally.call(kind, Call::Order(n, &bytes, room), dice.below(MOST_VALUES + 1), &told, house.as_deref());
+        let room = random_body_room(text_length, &mut dice);
+        let (told, text) = plain::render(n, &bytes, room);
+        text_answers.count(&told);
+        tally.call(kind, Call::Render(n, &bytes, room), dice.below(MOST_VALUES + 1), &told, text.as_deref());
     }
     answers.show("house order");
+    text_answers.show("writing a text");
     tally.end_part(&format!("{BODIES} random bodies, seed {SEED}, against the second program"));
 }
 
@@ -1343,6 +1416,22 @@ fn random_trees(tally: &mut Tally) {
         tally.call("the tree built again", Call::Build(n, &table, room), MOST_VALUES, &told, house.as_deref());
     }
     tally.end_part(&format!("{TREES} random trees of every species, seed {SEED}: listed, put in house order and built again"));
+}
+
+// What is written is read as the body in house order, and that is written as the same text.
+fn texts_again(tally: &mut Tally) {
+    let mut dice = Dice(SEED);
+    for _ in 0..TREES {
+        let n = random_n(&mut dice);
+        let bytes = random_body(n, false, &mut dice);
+        let (house_told, house) = plain::order(n, &bytes, bytes.len());
+        let (text_told, text) = plain::render(n, &bytes, 308);
+        let (house, text) = (house.unwrap(), text.unwrap());
+        tally.call("a tree written", Call::Render(n, &bytes, 308), MOST_VALUES, &text_told, Some(&text));
+        tally.call("what was written, read", Call::Parse(n, &text, 254), MOST_VALUES, &house_told, Some(&house));
+        tally.call("what was read, written", Call::Render(n, &house, text.len()), MOST_VALUES, &text_told, Some(&text));
+    }
+    tally.end_part(&format!("{TREES} random trees, seed {SEED}: written, read and written again"));
 }
 
 // A candidate and a table with bytes up to 7, and where the candidate comes from.
@@ -1463,7 +1552,8 @@ fn main() {
     lists_refused(&mut tally);
     lists_entered(&mut tally);
     random_lists(&mut tally);
-    bodies_refused(&mut tally);
+    bodies_refused(&mut tally, "to put in house order", |n, body, room| Call::Order(n, body, room));
+    bodies_without_room(&mut tally);
     bodies_ordered(&mut tally);
     random_bodies(&mut tally);
     tables_refused(&mut tally);
@@ -1480,6 +1570,10 @@ fn main() {
     texts_refused(&mut tally);
     texts_parsed(&mut tally);
     random_texts(&mut tally);
+    bodies_refused(&mut tally, "to write as text", |n, body, room| Call::Render(n, body, room));
+    texts_without_room(&mut tally);
+    texts_rendered(&mut tally);
+    texts_again(&mut tally);
     indices(&mut tally);
     println!("tries: {} cases, {} differ", tally.cases, tally.differ);
     if tally.differ > 0 {

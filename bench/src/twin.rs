@@ -6,6 +6,7 @@ const NONE: u8 = 255;
 const MOST_BYTES: usize = 4096;
 const MOST_OPEN: usize = 63;
 const MOST_SPECIES: usize = 254;
+const MOST_TEXT: usize = 308;
 
 enum Fault {
     BadParent(u8),
@@ -495,15 +496,20 @@ fn put(body: &[u8], groups: &[u64; 127], i: usize, p: u8, at: usize, out: &mut [
     next
 }
 
-fn order_answer(n: usize, body: &[u8], out: &mut [u8]) -> Answer {
+// Why a body is not taken.
+fn bad_body(n: usize, body: &[u8]) -> Option<Answer> {
     if bad_count(n) {
-        return Answer::BadCounts;
+        return Some(Answer::BadCounts);
     }
     if bad_length(body.len()) {
-        return Answer::BadLength(0);
+        return Some(Answer::BadLength(0));
     }
-    if let Some(x) = first_fault(0, n, body) {
-        return Answer::BadTree(x);
+    first_fault(0, n, body).map(Answer::BadTree)
+}
+
+fn order_answer(n: usize, body: &[u8], out: &mut [u8]) -> Answer {
+    if let Some(refused) = bad_body(n, body) {
+        return refused;
     }
     if out.len() < body.len() {
         return Answer::ShortRoom;
@@ -1013,6 +1019,54 @@ fn parse_answer(n: usize, text: &[u8], out: &mut [u8]) -> Answer {
     Answer::Written(nodes)
 }
 
+// Writes a species number below 100. Returns the place behind it.
+fn write_number(s: u8, at: usize, draft: &mut [u8; MOST_TEXT]) -> usize {
+    if s < 10 {
+        draft[at] = b'0' + s;
+        return at + 1;
+    }
+    draft[at] = b'0' + s / 10;
+    draft[at + 1] = b'0' + s % 10;
+    at + 2
+}
+
+// Writes the tree under node i as text, in house order. Returns the place behind it.
+fn write_subtree(body: &[u8], groups: &[u64; 127], i: usize, at: usize, draft: &mut [u8; MOST_TEXT]) -> usize {
+    let s = species(body, i);
+    if s != NONE {
+        return write_number(s, at, draft);
+    }
+    let mut next = at;
+    let mut sign = b'(';
+    let mut left = groups[i];
+    while left != 0 {
+        draft[next] = sign;
+        let c = child_with(body, groups, i, lowest(left));
+        next = write_subtree(body, groups, c, next + 1, draft);
+        sign = b',';
+        left &= !groups[c];
+    }
+    draft[next] = b')';
+    next + 1
+}
+
+fn render_answer(n: usize, body: &[u8], out: &mut [u8]) -> Answer {
+    if let Some(refused) = bad_body(n, body) {
+        return refused;
+    }
+    let mut groups = [0; 127];
+    groups_of(body, &mut groups);
+    let mut draft = [0; MOST_TEXT];
+    let end = write_subtree(body, &groups, 0, 0, &mut draft);
+    draft[end] = b';';
+    let text = &draft[..end + 1];
+    if out.len() < text.len() {
+        return Answer::ShortRoom;
+    }
+    out[..text.len()].copy_from_slice(text);
+    Answer::Written(text.len())
+}
+
 // ---- numbers handed back
 
 // Lays `given` into `values` from place 0 on, as far as there is room.
@@ -1066,8 +1120,8 @@ fn hand_back(answer: Answer, values: &mut [usize]) -> usize {
             lay(values, &[s as usize]);
             10
         }
-        Answer::Written(nodes) => {
-            lay(values, &[nodes]);
+        Answer::Written(count) => {
+            lay(values, &[count]);
             0
         }
         Answer::Passes => 0,
@@ -1116,4 +1170,8 @@ pub fn check(n: usize, t: &[u8], body: &[u8], values: &mut [usize]) -> usize {
 
 pub fn parse(n: usize, text: &[u8], out: &mut [u8], values: &mut [usize]) -> usize {
     hand_back(parse_answer(n, text, out), values)
+}
+
+pub fn render(n: usize, body: &[u8], out: &mut [u8], values: &mut [usize]) -> usize {
+    hand_back(render_answer(n, body, out), values)
 }

@@ -2,7 +2,7 @@
 
 use std::fmt::Write;
 
-use crate::operations::{build, check, enter, list, order, parse, read, Refusal};
+use crate::operations::{build, check, enter, list, order, parse, read, render, Refusal};
 use crate::trees::Fault;
 
 /// The longest slice, in bytes, and the longest list of records that a call may hand over.
@@ -18,6 +18,7 @@ pub enum Call {
     Build { n: u64, table: Vec<u8>, room: Vec<u8> },
     Check { n: u64, table: Vec<u8>, body: Vec<u8> },
     Parse { n: u64, text: Vec<u8>, room: Vec<u8> },
+    Render { n: u64, body: Vec<u8>, room: Vec<u8> },
 }
 
 /// The answer to a call: its number, the word of its fault where there is one, and its line
@@ -39,6 +40,7 @@ impl Call {
             Call::Build { .. } => 'b',
             Call::Check { .. } => 'c',
             Call::Parse { .. } => 'n',
+            Call::Render { .. } => 'w',
         }
     }
 
@@ -65,7 +67,8 @@ impl Call {
             Call::Order { n, body: one, room: two }
             | Call::Build { n, table: one, room: two }
             | Call::Check { n, table: one, body: two }
-            | Call::Parse { n, text: one, room: two } => {
+            | Call::Parse { n, text: one, room: two }
+            | Call::Render { n, body: one, room: two } => {
                 out.extend(n.to_be_bytes());
                 put_slice(out, one);
                 put_slice(out, two);
@@ -95,25 +98,14 @@ impl Call {
                 let given = enter(*n, records, &mut table).map(|n| vec![n]);
                 answer(given, Some(&table))
             }
-            Call::Order { n, body, room } => {
-                let mut room = room.clone();
-                let given = order(*n, body, &mut room).map(|nodes| vec![nodes]);
-                answer(given, Some(&room))
-            }
-            Call::Build { n, table, room } => {
-                let mut room = room.clone();
-                let given = build(*n, table, &mut room).map(|nodes| vec![nodes]);
-                answer(given, Some(&room))
-            }
+            Call::Order { n, body, room } => in_room(order, *n, body, room),
+            Call::Build { n, table, room } => in_room(build, *n, table, room),
             Call::Check { n, table, body } => {
                 let given = check(*n, table, body).map(|()| vec![]);
                 answer(given, None)
             }
-            Call::Parse { n, text, room } => {
-                let mut room = room.clone();
-                let given = parse(*n, text, &mut room).map(|nodes| vec![nodes]);
-                answer(given, Some(&room))
-            }
+            Call::Parse { n, text, room } => in_room(parse, *n, text, room),
+            Call::Render { n, body, room } => in_room(render, *n, body, room),
         }
     }
 
@@ -156,9 +148,17 @@ impl Call {
             b'b' => Call::Build { n: number(input, 8)?, table: slice(input)?, room: slice(input)? },
             b'c' => Call::Check { n: number(input, 8)?, table: slice(input)?, body: slice(input)? },
             b'n' => Call::Parse { n: number(input, 8)?, text: slice(input)?, room: slice(input)? },
+            b'w' => Call::Render { n: number(input, 8)?, body: slice(input)?, room: slice(input)? },
             _ => return None,
         })
     }
+}
+
+/// The answer of an operation that writes to a lent room, and returns one number.
+fn in_room(operation: fn(u64, &[u8], &mut [u8]) -> Result<usize, Refusal>, n: u64, from: &[u8], room: &[u8]) -> Answer {
+    let mut room = room.to_vec();
+    let given = operation(n, from, &mut room).map(|value| vec![value]);
+    answer(given, Some(&room))
 }
 
 fn answer(given: Result<Vec<usize>, Refusal>, lent: Option<&[u8]>) -> Answer {

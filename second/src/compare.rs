@@ -40,16 +40,39 @@ struct Batch {
     says: Vec<u8>,
 }
 
+impl Batch {
+    /// A call more, and what this program says, whose numbers are counted.
+    fn add(&mut self, call: &Call, counts: &mut Counts) {
+        let answer = std::panic::catch_unwind(|| call.answer()).unwrap_or_else(|_| {
+            println!("second: FAILED: the second program disagrees with itself on {call:?}");
+            std::process::exit(1)
+        });
+        *counts.numbers.entry((call.letter(), answer.number)).or_default() += 1;
+        if let Some(word) = answer.fault {
+            *counts.faults.entry((call.letter(), word)).or_default() += 1;
+        }
+        call.put(&mut self.input);
+        self.ends.push(self.input.len());
+        self.says.extend(answer.line.bytes());
+        self.says.push(10);
+    }
+}
+
 impl Comparison {
     pub fn new(programs: Programs, folder: PathBuf) -> Comparison {
         let counts = Counts::default();
         Comparison { programs, folder, counts, compared: 0, differ: 0, kept: 0 }
     }
 
+    /// Are as many counterexamples kept as may be?
+    pub fn enough(&self) -> bool {
+        self.kept >= KEPT
+    }
+
     /// Compares trial on many calls. `make` hands each call to the function that it gets, which
     /// says false when enough differ. Calls are made and answered here while trial runs.
     pub fn calls(&mut self, make: impl FnOnce(&mut dyn FnMut(Call) -> bool) + Send) {
-        let enough = AtomicBool::new(self.kept >= KEPT);
+        let enough = AtomicBool::new(self.enough());
         let (send, receive) = sync_channel::<Batch>(AT_A_TIME);
         let receive = Mutex::new(receive);
         let (done, ran) = channel::<(Batch, Run)>();
@@ -71,7 +94,7 @@ impl Comparison {
             drop(done);
             for (batch, run) in ran {
                 self.batch(&batch, &run);
-                enough.store(self.kept >= KEPT, Ordering::Relaxed);
+                enough.store(self.enough(), Ordering::Relaxed);
             }
             let counts = maker.join().expect("this program answers every call");
             for (key, count) in counts.numbers {
@@ -81,6 +104,20 @@ impl Comparison {
                 *self.counts.faults.entry(key).or_default() += count;
             }
         });
+    }
+
+    /// Compares trial on these calls, and hands back its own lines: none where it stopped before.
+    pub fn lines(&mut self, calls: &[Call]) -> Vec<Option<String>> {
+        let mut given = Vec::new();
+        for some in calls.chunks(CALLS_IN_A_BATCH / 4) {
+            let mut batch = Batch::default();
+            some.iter().for_each(|call| batch.add(call, &mut self.counts));
+            let run = self.programs.run(Program::Trial, batch.input.clone(), Feed::Whole);
+            self.batch(&batch, &run);
+            let wrote = split(&run.wrote);
+            given.extend((0..some.len()).map(|k| wrote.get(k).map(|line| shown(line))));
+        }
+        given
     }
 
     fn batch(&mut self, batch: &Batch, run: &Run) {
@@ -105,7 +142,7 @@ impl Comparison {
                 let up_to = &batch.input[..*end];
                 self.differs(Program::Trial, note, up_to, run, &lines(up_to));
             }
-            if self.kept >= KEPT || wrote.len() <= k {
+            if self.enough() || wrote.len() <= k {
                 return;
             }
         }
@@ -132,7 +169,7 @@ impl Comparison {
         self.differ += 1;
         let name = program.name();
         println!("second: DIFFERS: {name}: {note}");
-        if self.kept >= KEPT {
+        if self.enough() {
             return;
         }
         self.kept += 1;
@@ -177,18 +214,7 @@ fn make_batches(
     let mut counts = Counts::default();
     let mut batch = Batch::default();
     make(&mut |call: Call| {
-        let answer = std::panic::catch_unwind(|| call.answer()).unwrap_or_else(|_| {
-            println!("second: FAILED: the second program disagrees with itself on {call:?}");
-            std::process::exit(1)
-        });
-        *counts.numbers.entry((call.letter(), answer.number)).or_default() += 1;
-        if let Some(word) = answer.fault {
-            *counts.faults.entry((call.letter(), word)).or_default() += 1;
-        }
-        call.put(&mut batch.input);
-        batch.ends.push(batch.input.len());
-        batch.says.extend(answer.line.bytes());
-        batch.says.push(10);
+        batch.add(&call, &mut counts);
         let full = batch.ends.len() >= CALLS_IN_A_BATCH || batch.input.len() + batch.says.len() >= BYTES_IN_A_BATCH;
         if full {
             send.send(std::mem::take(&mut batch)).expect("the batches are waited for");

@@ -1,4 +1,4 @@
-//! All tables and all candidates up to four species, all short texts, and those at the limits.
+//! All tables and all candidates up to four species, all short texts, those at the limits, and all rooms for a text.
 
 use crate::calls::Call;
 use crate::grammar::place;
@@ -6,6 +6,7 @@ use crate::limits::{cases, ladder};
 use crate::newick;
 use crate::trees::{all_trees, subsets, Tree};
 use crate::triples::{all, choose};
+use crate::writer;
 
 /// Every table of n species.
 fn tables(n: usize) -> Vec<Vec<u8>> {
@@ -26,13 +27,13 @@ fn tables(n: usize) -> Vec<Vec<u8>> {
 }
 
 /// Every tree on any of the species.
-fn trees(n: usize) -> Vec<Tree> {
+pub fn trees(n: usize) -> Vec<Tree> {
     let sets = subsets(all(n)).into_iter().filter(|&set| set != 0);
     sets.flat_map(all_trees).collect()
 }
 
 /// The bodies of a tree, in every order of its nodes that the rules allow.
-fn bodies(tree: &Tree) -> Vec<Vec<u8>> {
+pub fn bodies(tree: &Tree) -> Vec<Vec<u8>> {
     fn go(body: &[u8], waiting: &[(u8, &Tree)], bodies: &mut Vec<Vec<u8>>) {
         if waiting.is_empty() {
             bodies.push(body.to_vec());
@@ -103,19 +104,20 @@ pub fn exhaustive(push: &mut dyn FnMut(Call) -> bool) {
             }
         }
 
-        // every body of every tree into order, read and list
-        for body in trees.iter().flat_map(bodies) {
-            let bytes = collection(n, &[&body]);
-            let table = vec![9; choose(n, 3)];
-            let calls = [
-                Call::Order { n: wide, body: body.clone(), room: vec![9; body.len()] },
-                Call::Order { n: wide, body: body.clone(), room: vec![9; body.len() + 3] },
-                Call::Order { n: wide, body: body.clone(), room: vec![9; body.len() - 1] },
-                Call::Read { bytes: bytes.clone() },
-                Call::List { bytes, table },
-            ];
-            if !calls.into_iter().all(&mut *push) {
-                return;
+        // every body of every tree into order, render, read and list
+        for tree in &trees {
+            let text = writer::length(tree);
+            for body in bodies(tree) {
+                let bytes = collection(n, &[&body]);
+                let table = vec![9; choose(n, 3)];
+                let order = |room| Call::Order { n: wide, body: body.clone(), room: vec![9; room] };
+                let render = |room| Call::Render { n: wide, body: body.clone(), room: vec![9; room] };
+                let calls = [body.len(), body.len() + 3, body.len() - 1].map(order).into_iter();
+                let calls = calls.chain([text, text + 1, text + 9, text - 1, 0].map(render));
+                let mut calls = calls.chain([Call::Read { bytes: bytes.clone() }, Call::List { bytes, table }]);
+                if !calls.all(&mut *push) {
+                    return;
+                }
             }
         }
 
@@ -157,7 +159,12 @@ pub fn exhaustive(push: &mut dyn FnMut(Call) -> bool) {
         for body in small_bodies(3, &[0, 1, 2, 254, 255], &[0, 1, 2, 3, 255]) {
             let room = vec![9; 8];
             let bytes = collection(n, &[&body]);
-            let calls = [Call::Order { n: n as u64, body, room }, Call::Read { bytes }];
+            let wide = n as u64;
+            let calls = [
+                Call::Order { n: wide, body: body.clone(), room: room.clone() },
+                Call::Render { n: wide, body, room },
+                Call::Read { bytes },
+            ];
             if !calls.into_iter().all(&mut *push) {
                 return;
             }
@@ -220,6 +227,10 @@ fn begins_a_text(start: &[u8]) -> bool {
     place(start).map_or(true, |place| place == start.len())
 }
 
+/// Numbers of species, of which all but four are refused; 257 is 1 in one byte, and so on.
+const SIZES: [u64; 17] =
+    [0, 1, 2, 63, 64, 65, 66, 128, 255, 256, 257, 320, 65_537, 1 << 32, (1 << 32) + 4, 1 << 63, u64::MAX];
+
 /// Every text at the limits, which the reader has to refuse at the place that is known; every room
 /// about the length of a body; and what comes first where there is more than one refusal.
 pub fn limits(push: &mut dyn FnMut(Call) -> bool) -> bool {
@@ -245,9 +256,70 @@ pub fn limits(push: &mut dyn FnMut(Call) -> bool) -> bool {
     // n comes first, then the text, the tree, and the room
     let over = "x".repeat(4_097);
     for text in ["0;", "(1,0);", "1;", "63;", "64;", "(0);", "(0,64);", "(64);", "x", "", "((0,1),2", &over] {
-        for n in [0, 1, 2, 63, 64, 65, 66, 128, 255, 256, 257, 320, 65_537, 1 << 32, (1 << 32) + 4, 1 << 63, u64::MAX] {
+        for n in SIZES {
             for room in [0, 1, 2, 6, 300] {
                 call(n, text.as_bytes(), room);
+            }
+        }
+    }
+    calls.into_iter().all(push)
+}
+
+/// The tree with the children of each node in the opposite order.
+fn turned(tree: &Tree) -> Tree {
+    match tree {
+        Tree::Leaf(species) => Tree::Leaf(*species),
+        Tree::Inner(children) => Tree::Inner(children.iter().rev().map(turned).collect()),
+    }
+}
+
+/// A text of every shape of 64 species, two of them with 308 bytes, which is the most; and some of few species. Each
+/// has its children in house order.
+fn written() -> Vec<String> {
+    fn halves(from: usize, to: usize) -> String {
+        match to - from {
+            1 => from.to_string(),
+            more => format!("({},{})", halves(from, from + more / 2), halves(from + more / 2, to)),
+        }
+    }
+    let listed = |species: Vec<usize>| species.iter().map(usize::to_string).collect::<Vec<_>>().join(",");
+    let few = ["0;", "9;", "10;", "63;", "(0,1);", "(9,10);", "((0,1),2);", "(0,(1,2),3);", "((0,62),(1,63));"];
+    let mut texts = vec![ladder(63), format!("{};", halves(0, 64))];
+    assert!(texts.iter().all(|text| text.len() == 308));
+    texts.push(format!("({});", listed((0..64).collect())));
+    texts.push(format!("(0,({}),63);", listed((1..63).collect())));
+    texts.extend(few.map(String::from));
+    texts
+}
+
+/// Bodies to be written: each text in every room up to some bytes more than it has, from a body in house order and from
+/// one that is turned; and what comes first where there is more than one refusal.
+pub fn rooms(push: &mut dyn FnMut(Call) -> bool) -> bool {
+    let mut calls = Vec::new();
+    let mut call = |n: u64, body: &[u8], room: usize| {
+        calls.push(Call::Render { n, body: body.to_vec(), room: vec![9; room] });
+    };
+    for text in written() {
+        let tree = newick::read(text.as_bytes()).expect("a tree");
+        for tree in [turned(&tree), tree] {
+            assert_eq!(writer::text(&tree), text.as_bytes(), "the text by hand");
+            for room in (0..=text.len() + 9).chain([1_000, 4_096]) {
+                call(64, &tree.preorder(), room);
+            }
+        }
+    }
+
+    // n comes first, then the body's length, the tree, and the room
+    let mut long = newick::read(ladder(63).as_bytes()).expect("a tree").preorder();
+    long.extend([0, 0, 0, 0]);
+    let odd = &long[..253];
+    let only: [u8; 4] = [255, 255, 0, 0];
+    let good: [u8; 6] = [255, 255, 0, 1, 0, 0];
+    let broken: [u8; 6] = [255, 255, 0, 0, 0, 63];
+    for body in [&[][..], &[255], odd, &long[..255], &long[..256], &long, &[0, 0], &[255, 64], &only, &broken, &good] {
+        for n in SIZES {
+            for room in [0, 1, 2, 5, 6, 7, 307, 308, 400] {
+                call(n, body, room);
             }
         }
     }

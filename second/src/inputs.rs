@@ -7,6 +7,7 @@ use crate::random::Random;
 use crate::texts;
 use crate::trees::Tree;
 use crate::triples::{all, choose, members, one};
+use crate::writer;
 
 /// A check of a candidate with more species than this, past PC, counts as slow: it takes this
 /// program some tenths of a second.
@@ -34,7 +35,7 @@ impl Inputs {
         if n > 48 {
             self.large += 1;
         }
-        let letter = self.random.pick(b"rrrlllleeeoooobbbbbcccccccnnnnn");
+        let letter = self.random.pick(b"rrrlllleeeoooobbbbbcccccccnnnnnwwwww");
         match letter {
             b'r' => Call::Read { bytes: self.collection(n) },
             b'l' => {
@@ -46,6 +47,7 @@ impl Inputs {
             b'o' => self.order(n),
             b'b' => self.build(n),
             b'n' => self.parse(n),
+            b'w' => self.render(n),
             _ => self.check(n, slow_allowed),
         }
     }
@@ -311,15 +313,42 @@ impl Inputs {
         body
     }
 
-    /// A body over some of the n species, mostly good.
-    fn any_body(&mut self, n: usize) -> Vec<u8> {
+    /// A tree of some of the n species, and its body, which is mostly good.
+    fn any_body(&mut self, n: usize) -> (Tree, Vec<u8>) {
         let set = self.some_species(n);
         let tree = self.tree(set);
         let mut body = self.body(&tree);
         if self.random.chance(1, 4) {
             body = self.damaged(n, &body);
         }
-        body
+        (tree, body)
+    }
+
+    /// n, and good bodies: of one tree, in some orders of its nodes, and of trees that are much like it.
+    pub fn family(&mut self) -> (usize, Vec<Vec<u8>>) {
+        let n = if self.random.chance(1, 3) { self.random.between(9, 64) } else { self.species() };
+        let set = self.some_species(n);
+        let tree = self.tree(set);
+        let mut trees = vec![tree.clone(), tree.clone(), tree.clone()];
+        trees.push(self.less(&tree));
+        trees.push(self.contracted(&tree, 1, 6));
+        // two species change places
+        let (one, two) = (self.random.below(n), self.random.below(n));
+        let swapped = |species| match species {
+            species if species == one => two,
+            species if species == two => one,
+            species => species,
+        };
+        trees.push(renamed(&tree, &swapped));
+        (n, trees.iter().map(|tree| self.body(tree)).collect())
+    }
+
+    /// n, and a text of a good tree.
+    pub fn good_text(&mut self) -> (u64, Vec<u8>) {
+        let n = self.species();
+        let set = self.some_species(n);
+        let tree = self.tree(set);
+        (n as u64, texts::written(&tree, &mut self.random))
     }
 
     /// Trees of one collection: all of one tree, so that some tree holds them all, or each its own.
@@ -568,9 +597,15 @@ impl Inputs {
     }
 
     fn order(&mut self, n: usize) -> Call {
-        let body = self.any_body(n);
+        let (_, body) = self.any_body(n);
         let room = self.room(body.len());
         Call::Order { n: self.handed(n), body, room }
+    }
+
+    fn render(&mut self, n: usize) -> Call {
+        let (tree, body) = self.any_body(n);
+        let room = self.room(writer::length(&tree));
+        Call::Render { n: self.handed(n), body, room }
     }
 
     fn build(&mut self, n: usize) -> Call {
@@ -659,6 +694,14 @@ impl Inputs {
         }
         let table = self.table_handed(table);
         Call::Check { n: self.handed(n), table, body }
+    }
+}
+
+/// The tree with other species at its leaves.
+fn renamed(tree: &Tree, names: &dyn Fn(usize) -> usize) -> Tree {
+    match tree {
+        Tree::Leaf(species) => Tree::Leaf(names(*species)),
+        Tree::Inner(children) => Tree::Inner(children.iter().map(|child| renamed(child, names)).collect()),
     }
 }
 

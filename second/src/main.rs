@@ -15,10 +15,12 @@ mod operations;
 mod programs;
 mod protocol;
 mod random;
+mod rounds;
 mod shelf;
 mod texts;
 mod trees;
 mod triples;
+mod writer;
 
 use std::io::{Read, Write};
 use std::path::PathBuf;
@@ -35,7 +37,7 @@ const SEED: u64 = 1;
 const TEXTS: usize = 5;
 
 /// Every number that each operation has, and every fault of its refusal 6.
-const NUMBERS: [(char, &str, &[u8], &[&str]); 7] = [
+const NUMBERS: [(char, &str, &[u8], &[&str]); 8] = [
     ('r', "read", &[0, 1, 2, 3, 4, 5, 6], &FAULTS),
     ('l', "list", &[0, 1, 2, 3, 4, 5, 6, 7], &FAULTS),
     ('e', "enter", &[0, 2, 7, 13], &[]),
@@ -44,6 +46,7 @@ const NUMBERS: [(char, &str, &[u8], &[&str]); 7] = [
     ('c', "check", &[0, 2, 5, 6, 7, 8, 11, 12], &FAULTS),
     // a text cannot make a bad parent
     ('n', "parse", &[0, 2, 6, 9, 14], &["species", "seen", "only"]),
+    ('w', "render", &[0, 2, 5, 6, 9], &FAULTS),
 ];
 const FAULTS: [&str; 4] = ["parent", "species", "seen", "only"];
 
@@ -173,6 +176,12 @@ fn compare_all(programs: Programs, calls: u64, seed: u64, texts: usize) -> ExitC
             exhaustive::limits(push);
         });
     });
+    part(&mut comparison, "texts written, in every room", |c| {
+        c.calls(|push| {
+            exhaustive::rooms(push);
+        });
+    });
+    part(&mut comparison, "texts written and read again", |c| rounds::compare(c, seed));
     let fixed = std::mem::take(&mut comparison.counts);
     let mut made = (0, 0);
     part(&mut comparison, "random calls", |c| {
@@ -221,7 +230,7 @@ fn part(comparison: &mut Comparison, name: &str, run: impl FnOnce(&mut Compariso
 fn tell_counts(fixed: &Counts, random: &Counts) -> Vec<String> {
     let mut never = Vec::new();
     for (letter, name, numbers, faults) in NUMBERS {
-        let mut line = format!("second:   {name:<5}");
+        let mut line = format!("second:   {name:<6}");
         for number in numbers {
             let key = (letter, *number);
             let often = random.numbers.get(&key).copied().unwrap_or(0);
@@ -235,7 +244,7 @@ fn tell_counts(fixed: &Counts, random: &Counts) -> Vec<String> {
         if faults.is_empty() {
             continue;
         }
-        let mut line = format!("second:   {name:<5}  of the 6:");
+        let mut line = format!("second:   {name:<6}  of the 6:");
         for &fault in faults {
             let often = random.faults.get(&(letter, fault)).copied().unwrap_or(0);
             let before = fixed.faults.get(&(letter, fault)).copied().unwrap_or(0);

@@ -1,8 +1,9 @@
 //! Runs by name, each with its outcome written out by hand: those of document 01, worked examples of
-//! its source papers, and Newick texts (document 02, T-01).
+//! its source papers, and Newick texts, read and written (document 02, T-01 and T-02).
 
 use crate::calls::Call;
 use crate::compare::{shown, split, Comparison};
+use crate::limits::ladder;
 use crate::newick;
 use crate::programs::{Feed, Program, Run};
 use crate::shelf::shelf;
@@ -42,6 +43,21 @@ impl Runs {
     fn parse_refused(&mut self, n: u64, text: &[u8], refusal: &str) {
         let call = Call::Parse { n, text: text.to_vec(), room: vec![9; 8] };
         self.call(&text_name(n, text), call, &format!("{refusal} | 9 9 9 9 9 9 9 9"));
+    }
+
+    /// A body written in a room with as many bytes 9 behind the text as are given.
+    fn render(&mut self, n: u64, body: &[u8], text: &str, behind: usize) {
+        let call = Call::Render { n, body: body.to_vec(), room: vec![9; text.len() + behind] };
+        let bytes: String = text.bytes().map(|byte| format!(" {byte}")).collect();
+        let name = format!("n={n}, written as {:?}", short(text));
+        self.call(&name, call, &format!("0 {} |{bytes}{}", text.len(), " 9".repeat(behind)));
+    }
+
+    /// A body that is not written, which leaves its room of so many bytes as it was.
+    fn render_refused(&mut self, n: u64, body: &[u8], room: usize, refusal: &str) {
+        let name = format!("n={n}, body {}, room of {room} bytes", short(&format!("{body:?}")));
+        let call = Call::Render { n, body: body.to_vec(), room: vec![9; room] };
+        self.call(&name, call, &format!("{refusal} |{}", " 9".repeat(room)));
     }
 
     fn shelf(&mut self, name: &str, bytes: &[u8], output: &str) {
@@ -398,12 +414,79 @@ fn texts_refused(runs: &mut Runs) {
     runs.call("text \"(0)\", no room", short_room(b"(0)", 0), "14 3 |");
 }
 
+/// Bodies that are written as Newick text, and such that are not.
+fn texts_written(runs: &mut Runs) {
+    // the example of the calls, byte by byte
+    let call = Call::Render { n: 4, body: CHERRY.to_vec(), room: vec![9; 12] };
+    runs.call("((0,1),2) written, room of 12 bytes", call, "0 10 | 40 40 48 44 49 41 44 50 41 59 9 9");
+
+    runs.render(1, &[255, 0], "0;", 1);
+    runs.render(64, &[255, 63], "63;", 0);
+    runs.render(10, &[255, 9], "9;", 0);
+    runs.render(11, &[255, 10], "10;", 4);
+    runs.render(2, &[255, 255, 0, 0, 0, 1], "(0,1);", 0);
+    // children by their lowest species, wherever their nodes stand
+    runs.render(2, &[255, 255, 0, 1, 0, 0], "(0,1);", 2);
+    runs.render(64, &[255, 255, 0, 10, 0, 9], "(9,10);", 0);
+    for [x, y, z] in [[0, 1, 2], [0, 2, 1], [1, 0, 2], [1, 2, 0], [2, 0, 1], [2, 1, 0]] {
+        runs.render(3, &[255, 255, 0, x, 0, y, 0, z], "(0,1,2);", 0);
+    }
+    runs.render(3, &[255, 255, 0, 2, 0, 255, 2, 1, 2, 0], "((0,1),2);", 0);
+    runs.render(4, &NESTED, "(((0,1),2),3);", 0);
+    runs.render(4, &[255, 255, 0, 255, 0, 3, 1, 2, 1, 255, 4, 1, 4, 0], "(((0,1),2),3);", 1);
+    runs.render(4, &[255, 255, 0, 255, 0, 255, 1, 3, 2, 1, 1, 2, 2, 0], "((0,1),(2,3));", 0);
+    runs.render(4, &[255, 255, 0, 255, 0, 255, 2, 0, 1, 2, 2, 3, 1, 1], "((0,3),(1,2));", 0);
+    runs.render(4, &[255, 255, 0, 1, 0, 255, 2, 3, 2, 255, 4, 2, 4, 0], "(((0,2),3),1);", 0);
+    runs.render(64, &[255, 255, 0, 63, 0, 255, 2, 62, 2, 5], "((5,62),63);", 0);
+    let six = [255, 255, 0, 255, 1, 255, 2, 5, 2, 4, 1, 3, 0, 2, 0, 255, 7, 1, 7, 0];
+    runs.render(6, &six, "((0,1),2,(3,(4,5)));", 3);
+    // the longest text, from its own order and from (63,(62,..(1,0)..))
+    let longest = ladder(63);
+    let opened: String = (1..64).rev().map(|species| format!("({species},")).collect();
+    let turned = format!("{opened}0{};", ")".repeat(63));
+    let [house, turned] = [&longest, &turned].map(|text| newick::read(text.as_bytes()).expect("a tree").preorder());
+    for body in [&house, &turned] {
+        for behind in [0, 1] {
+            runs.render(64, body, &longest, behind);
+        }
+        runs.render_refused(64, body, 307, "9");
+    }
+
+    // 2, 5, 6, 9, in this order
+    for n in [0, 65, 1 << 32, u64::MAX] {
+        for body in [&[][..], &[255], &[255, 255, 0, 0], &CHERRY] {
+            runs.render_refused(n, body, 12, "2");
+        }
+    }
+    let long = [&house[..], &[0, 0]].concat();
+    for body in [&[][..], &[255], &CHERRY[..9], &long[..253], &long[..255], &long] {
+        runs.render_refused(4, body, 0, "5 0");
+    }
+    for (body, refusal) in [
+        (&[0, 0][..], "6 0 0 parent 0"),
+        (&[255, 4], "6 0 0 species 4"),
+        (&[255, 255], "6 0 0 species 255"),
+        (&[255, 255, 0, 0], "6 0 0 only"),
+        (&[255, 255, 0, 3, 0, 3], "6 0 2 seen 1"),
+        (&[255, 255, 0, 9, 5, 0], "6 0 2 parent 5"),
+    ] {
+        runs.render_refused(4, body, 0, refusal);
+        runs.render_refused(4, body, 9, refusal);
+    }
+    for room in [0, 1, 9] {
+        runs.render_refused(4, &CHERRY, room, "9");
+    }
+    runs.render_refused(64, &[255, 63], 2, "9");
+    runs.render_refused(64, &[255, 9], 1, "9");
+}
+
 fn all_runs() -> Runs {
     let mut runs = Runs { calls: Vec::new(), shelf: Vec::new() };
     document_01(&mut runs);
     papers(&mut runs);
     texts_read(&mut runs);
     texts_refused(&mut runs);
+    texts_written(&mut runs);
     runs
 }
 

@@ -1,10 +1,11 @@
-//! The seven operations (document 01, "Numbers handed back", and document 02, T-01).
+//! The eight operations (document 01, "Numbers handed back", and document 02, T-01 and T-02).
 
 use crate::entered::{some_tree_holds, Entered};
 use crate::grammar::{self, LONGEST_SEARCHED};
 use crate::newick;
 use crate::trees::{broken_rule, Fault, Tree};
 use crate::triples::{all, choose, has, index, triples, triplets_on};
+use crate::writer;
 
 #[derive(Clone, Debug, PartialEq, Eq)]
 pub enum Refusal {
@@ -174,11 +175,14 @@ pub fn order(n: u64, body: &[u8], room: &mut [u8]) -> Result<usize, Refusal> {
 
 /// Writes a body to the front of a room that is long enough. Returns the node count.
 fn put_body(body: &[u8], room: &mut [u8]) -> Result<usize, Refusal> {
-    if room.len() < body.len() {
-        return Err(Refusal::Room);
-    }
-    room[..body.len()].copy_from_slice(body);
-    Ok(body.len() / 2)
+    Ok(put(body, room)? / 2)
+}
+
+/// Writes bytes to the front of a room that is long enough. Returns how many.
+fn put(bytes: &[u8], room: &mut [u8]) -> Result<usize, Refusal> {
+    let front = room.get_mut(..bytes.len()).ok_or(Refusal::Room)?;
+    front.copy_from_slice(bytes);
+    Ok(bytes.len())
 }
 
 /// Builds the tree of a table in the lent room. Returns the node count.
@@ -209,6 +213,19 @@ pub fn parse(n: u64, text: &[u8], room: &mut [u8]) -> Result<usize, Refusal> {
     body_length(0, body.len()).expect("a text gives no body of a bad length");
     tree_of(0, n, &body)?;
     put_body(&body, room)
+}
+
+/// Writes a body as Newick text in the lent room. Returns the text's length.
+pub fn render(n: u64, body: &[u8], room: &mut [u8]) -> Result<usize, Refusal> {
+    let n = size(n)?;
+    body_length(0, body.len())?;
+    let tree = tree_of(0, n, body)?;
+    let text = writer::text(&tree);
+    assert_eq!(text, writer::text_of_groups(&tree.groups()), "the text, by the tree and by its groups");
+    assert_eq!(text.len(), writer::length(&tree), "the text's length, counted and by the tree");
+    let read = newick::read(&text).map(|read| read.preorder());
+    assert_eq!(read, Ok(tree.house_order()), "reading what was written gives the house-order body");
+    put(&text, room)
 }
 
 /// Checks a candidate against a table.

@@ -17,6 +17,7 @@ fn short_calls() -> Vec<(Call, &'static str)> {
         (Call::Build { n: 1, table: vec![], room: vec![9, 9] }, "0 1 | 255 0\n"),
         (Call::Check { n: 3, table: vec![0], body: vec![255, 2] }, "0\n"),
         (Call::Parse { n: 2, text: b"1:3;".to_vec(), room: vec![9, 9, 9] }, "0 1 | 255 1 9\n"),
+        (Call::Render { n: 2, body: vec![255, 1], room: vec![9, 9, 9] }, "0 2 | 49 59 9\n"),
     ]
 }
 
@@ -64,6 +65,8 @@ fn by_hand() -> Vec<Case> {
         ("c, body", Call::Check { n: 3, table: vec![0], body: longer.clone() }),
         ("n, text", Call::Parse { n: 3, text: longer.clone(), room: vec![] }),
         ("n, room", Call::Parse { n: 3, text: b"0;".to_vec(), room: longer.clone() }),
+        ("w, body", Call::Render { n: 3, body: longer.clone(), room: vec![] }),
+        ("w, room", Call::Render { n: 3, body: vec![255, 0], room: longer.clone() }),
     ];
     for (name, call) in long {
         let input = [first.bytes(), call.bytes(), first.bytes()].concat();
@@ -99,7 +102,9 @@ fn longest() -> Vec<Case> {
         Call::Check { n: 64, table: nines.clone(), body: nines.clone() },
         Call::Check { n: 3, table: vec![1], body: nines.clone() },
         Call::Parse { n: 3, text: vec![b' '; LONGEST], room: nines.clone() },
-        Call::Parse { n: 3, text: b"(2,0);".to_vec(), room: nines },
+        Call::Parse { n: 3, text: b"(2,0);".to_vec(), room: nines.clone() },
+        Call::Render { n: 3, body: nines.clone(), room: nines.clone() },
+        Call::Render { n: 3, body: vec![255, 2], room: nines },
     ];
     calls
         .into_iter()

@@ -17,6 +17,7 @@ pub data Name : Type 0 where
   table-byte : Name
   first-record : Name
   byte-place : Name
+  text-length : Name
 
 -- a number with its name; or the fault of 6, with its own data
 pub data Value : Type 0 where

@@ -74,6 +74,7 @@ fn shape_of(byte: u8) -> Shape
         b'b' => row(1, 1, 1),
         b'c' => row(1, 1, 1),
         b'n' => row(1, 1, 1),
+        b'w' => row(1, 1, 1),
         _ => Shape {
             known: false,
             numbers: 0,

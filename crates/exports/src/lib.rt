@@ -9,6 +9,7 @@ ghost use Rattle.triplets.specs.Spelled.{spelled};
 ghost use Rattle.ordering.specs.Orders.{orderAnswer, orderAfter, orderTold};
 ghost use Rattle.building.specs.Builds.{buildAnswer, buildAfter, buildTold};
 ghost use Rattle.parsing.specs.Parses.{parseAnswer, parseAfter, parseTold};
+ghost use Rattle.rendering.specs.Renders.{renderAnswer, renderAfter, renderTold};
 ghost use Rattle.checking.specs.Checks.{checkAnswer, checkTold};
 ghost use Rattle.replies.specs.Replied.{replied};
 ghost use Rattle.tables.specs.Named.{named};
@@ -157,6 +158,21 @@ pub extern "C" fn koodhaxil_parse(
 {
     let a = parsing::parse(n, text, room);
     lay(replies::parse(a), values)
+}
+
+// Writes a tree as Newick text to the front of the room. A refusal leaves every byte of the room as it was.
+#[no_mangle]
+pub extern "C" fn koodhaxil_render(
+    n: usize,
+    body: &[u8],
+    room: &mut [u8],
+    values: &mut [usize],
+) -> usize
+    ensures { λ r. ⌜ Handed (renderTold (renderAnswer n (now (body .entry)) (length (now (room .entry))))) (now (values .entry)) r (now (values .exit)) ⌝ }
+    ensures { λ _. ⌜ now (room .exit) ≡ renderAfter n (now (body .entry)) (now (room .entry)) ⌝ }
+{
+    let a = rendering::render(n, body, room);
+    lay(replies::render(a), values)
 }
 
 // Is there a triple with this index? It is a question, so that its answer is none of document 01's numbers: 1 for yes, with the three species laid into

@@ -12,6 +12,7 @@ use Rattle.entering.specs.Enters.{enterAnswer, enterAfter, enterTold}
 use Rattle.ordering.specs.Orders.{orderAnswer, orderAfter, orderTold}
 use Rattle.building.specs.Builds.{buildAnswer, buildAfter, buildTold}
 use Rattle.parsing.specs.Parses.{parseAfter, parseAnswer, parseTold}
+use Rattle.rendering.specs.Renders.{renderAfter, renderAnswer, renderTold}
 use Rattle.checking.specs.Checks.{checkAnswer, checkTold}
 use Rattle.replies.specs.Plain.{Item, plain-number, broken-rule, Plain, plain}
 use Rattle.writing.specs.Texts.{decimal, spaced, ended}
@@ -75,6 +76,9 @@ buildLine n t o = ended (toldText (buildTold (buildAnswer n t (length o))) ++ ba
 
 unfoldable pub parseLine : ℕ → List ℕ → List ℕ → List ℕ
 parseLine n w o = ended (toldText (parseTold (parseAnswer n w (length o))) ++ barred (parseAfter n w o))
+
+unfoldable pub renderLine : ℕ → List ℕ → List ℕ → List ℕ
+renderLine n body o = ended (toldText (renderTold (renderAnswer n body (length o))) ++ barred (renderAfter n body o))
 
 unfoldable pub checkLine : ℕ → List ℕ → List ℕ → List ℕ
 checkLine n t body = ended (toldText (checkTold (checkAnswer n t body)))

@@ -10,10 +10,11 @@ ghost use Rattle.entering.specs.Enters.{enterAfter};
 ghost use Rattle.ordering.specs.Orders.{orderAfter};
 ghost use Rattle.building.specs.Builds.{buildAfter};
 ghost use Rattle.parsing.specs.Parses.{parseAfter};
+ghost use Rattle.rendering.specs.Renders.{renderAfter};
 ghost use Rattle.replies.specs.Replied.{replied};
 ghost use Rattle.writing.specs.Texts.{ended};
 ghost use Rattle.writing.specs.Writes.{Writes};
-ghost use Rattle.lines.specs.Lines.{faultText, plainText, toldText, barred, readLine, listLine, enterLine, orderLine, buildLine, parseLine, checkLine};
+ghost use Rattle.lines.specs.Lines.{faultText, plainText, toldText, barred, readLine, listLine, enterLine, orderLine, buildLine, parseLine, renderLine, checkLine};
 
 // Writes which rule is broken.
 fn put_fault(out: &mut [u8], at: usize, f: bodies::Fault) -> usize
@@ -145,6 +146,16 @@ pub fn parse_line(out: &mut [u8], at: usize, n: usize, text: &[u8], room: &mut [
 {
     let a = parsing::parse(n, text, room);
     put_barred(out, at, replies::parse(a), room)
+}
+
+// Writes a tree as Newick text, and the line of the call.
+pub fn render_line(out: &mut [u8], at: usize, n: usize, body: &[u8], room: &mut [u8]) -> usize
+    requires { ⌜ at + 4 * length (now room) + 100 ≤ length (now out) ⌝ }
+    ensures { λ r. ⌜ Writes (now (out .entry)) at (renderLine n (now (body .entry)) (now (room .entry))) (now (out .exit)) r ⌝ }
+    ensures { λ _. ⌜ now (room .exit) ≡ renderAfter n (now (body .entry)) (now (room .entry)) ⌝ }
+{
+    let a = rendering::render(n, body, room);
+    put_barred(out, at, replies::render(a), room)
 }
 
 // Checks a tree against the table t, and writes the line of the call.

@@ -1,3 +1,2 @@
 -- The laws of putting a tree in house order.
 pub mod InTurn
-pub mod Ready

@@ -10,27 +10,10 @@ ghost use Rattle.bodies.specs.Nodes.{nodes, width, mostNodes, bodyLength, Good,
 ghost use Rattle.bodies.specs.Draws.{subtree, nodeCount, bytes};
 ghost use Rattle.groups.specs.Groups.{Groups};
 ghost use Rattle.ordering.specs.Orders.{Orders};
-ghost use Rattle.ordering.specs.Children.{FindsChild};
 
 pub enum Answer {
     Done(answers::Written),
     Refused(answers::Refusal),
-}
-
-// A child of node i that has species x, if there is one.
-fn child_with(body: &[u8], groups: &[u64; bodies::MOST_NODES], i: usize, x: usize) -> usize
-    requires { ⌜ (nodes (now body) .count ≤ mostNodes) × (x < 64) ⌝ }
-    ensures { λ r. ⌜ FindsChild (nodes (now (body .entry))) (now (groups .entry)) i x r ⌝ }
-{
-    let count = bodies::node_count(body);
-    let mut j = 1;
-    while j < count {
-        if bodies::parent(body, j) as usize == i && sets::has(groups[j], x) {
-            return j;
-        }
-        j += 1;
-    }
-    0
 }
 
 // The species under the children of a node: a leaf has none.
@@ -62,7 +45,7 @@ fn put(
     let mut next = at + 1;
     let mut rest = lower(s, groups[i]);
     while rest != 0 {
-        let c = child_with(body, groups, i, sets::lowest(rest));
+        let c = children::child_with(body, groups, i, sets::lowest(rest));
         next = put(body, groups, c, at as u8, next, room);
         rest = sets::minus(rest, groups[c]);
     }

@@ -42,8 +42,10 @@ use Rattle.trees.specs.Trees.{Tree}
 use Rattle.newick.specs.Texts.{Readable}
 use Rattle.parsing.proofs.Texts.{text-body, text-pass, textLooks}
 use Rattle.parsing.specs.Parses.{parseLooks, textBody}
+use Rattle.rendering.specs.Renders.{renderLooks}
+use Rattle.rendering.specs.Texts.{newickText}
 use Rattle.promises.specs.Together.{RefusesBadAlone}
-use Rattle.promises.specs.Inputs.{Buildable, Checkable, Enterable, Listable, Orderable, Parsable, Triplet}
+use Rattle.promises.specs.Inputs.{Buildable, Checkable, Enterable, Listable, Orderable, Parsable, Renderable, Triplet}
 
 -- every look of l passes exactly where P is so
 abbrev Passed : List Look → Type 0 → Type 0
@@ -135,6 +137,10 @@ parse-pass n w o = recorded (counted n then (texted w then (followed n (textBody
     }) (λ g.
     let e = sym (text-body w (g .tree) (g .text)) in
     (g .count, ((g .tree, g .text), (subst (λ (b : List ℕ). Good n (nodes b)) e (g .rules), subst (λ (b : List ℕ). length b ≤ length o) e (g .room)))))
+
+pub render-pass : (n : ℕ) (b o : List ℕ) → Passed (renderLooks n b (length o)) (Renderable n b o)
+render-pass n b o = recorded (counted n then (bodied n b then roomed (length (newickText b)) (length o)))
+    (λ p. record { count = p .0; body = p .1 .0; room = p .1 .1 }) (λ g. (g .count, (g .body, g .room)))
 
 -- 2, 7, 8, 5, 6 of the check
 abbrev pub bothLooks : ℕ → List ℕ → List ℕ → List Look
@@ -231,4 +237,5 @@ accepts L d = record {
   checking = λ n t b. input-good (bothLooks n t b) (triplesLooks n t (treeOf b)) [] (check-input n t b) Eleven
       (λ k q s. ⊎-elim (λ z. z) (⊎-elim (λ z. absurd (not-input 11 refl k s z)) (λ z. absurd (not-input 12 refl k s z))) q) (eleven (ltb (firstDiffers n t (treeOf b)) (C n 3)) (ltb (firstUnsure n t (treeOf b)) (C n 3)) _ _) (L .check n t b) (d .checking n t b) (check-pass n t b);
   parsing = λ n w o. zero-good (L .parse n w o .told) (firstRefusal (parseLooks n w (length o))) _ (d .parsing n w o .told-is) (parse-pass n w o);
+  rendering = λ n b o. zero-good (L .render n b o .told) (firstRefusal (renderLooks n b (length o))) _ (d .rendering n b o .told-is) (render-pass n b o);
 }

@@ -3,7 +3,7 @@ use mathlib.Core.List.{List, [], _∷_}
 use mathlib.Core.Path.{_≡_, ap, ap₂, subst}
 use Prim.Native.Nat.{ℕ}
 use Rattle.answers.proofs.Answered.{kept, told-first}
-use Rattle.answers.specs.Answers.{Told, Value, node-count, told, value}
+use Rattle.answers.specs.Answers.{Name, Told, Value, told, value}
 use Rattle.answers.specs.Looks.{Settled, after, answered, firstRefusal}
 use Rattle.answers.specs.Refusals.{refusalTold}
 use Rattle.answers.specs.declared.Look.{Look}
@@ -23,6 +23,6 @@ pub settled-gives : {A W : Type 0} (tell : A → Told) {done : W → A} {refused
     → gives (tell r) o′ ≡ gives (tell (answered done refused (firstRefusal l) w)) (after (firstRefusal l) m o)
 settled-gives tell s = ap₂ gives (ap tell (s .is)) (s .holds)
 
--- a node count is told by its number
-pub count-is : (k m : ℕ) → told 0 (value node-count k ∷ []) ≡ told 0 (value node-count m ∷ []) → k ≡ m
-count-is k m e = let v : (value node-count k ∷ []) ≡ (value node-count m ∷ []) = ap (λ (x : Told). x .values) e in cc
+-- where one value is told, it is known by its number
+pub value-is : {j : ℕ} {x : Name} (k m : ℕ) → told j (value x k ∷ []) ≡ told j (value x m ∷ []) → k ≡ m
+value-is {x = x} k m e = let v : (value x k ∷ []) ≡ (value x m ∷ []) = ap (λ (t : Told). t .values) e in cc

@@ -7,6 +7,7 @@ pub mod Entered
 pub mod Wrote
 pub mod Ordered
 pub mod Parsed
+pub mod Rendered
 pub mod Built
 pub mod Alone
 pub mod Rebuilt

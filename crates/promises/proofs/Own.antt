@@ -19,7 +19,7 @@ use Rattle.answers.specs.Inputs.{Body}
 use Rattle.promises.specs.Operations.{builds, koodhaxil}
 use Rattle.promises.specs.Demand2.{Contradicts, front}
 use Rattle.promises.specs.Together.{BuiltChecked}
-use Rattle.promises.proofs.Chosen.{count-is}
+use Rattle.promises.proofs.Chosen.{value-is}
 use Rattle.promises.proofs.Promises.{accepted, demand2}
 
 -- a tree that holds all that is entered is contradicted by none of it
@@ -40,7 +40,7 @@ built-checked n m t o e =
     let z = ap (λ (r : Told). r .number) e in
     let g = accepted .building n t o .0 (inl z) in
     let k = demand2 .building n t o g .keeps z in
-    let is = count-is (k .count) m (sym (k .told-is) ∙ e) in
+    let is = value-is (k .count) m (sym (k .told-is) ∙ e) in
     let w = subst (λ (j : ℕ). Body n (front j (builds n t o .after))) is (k .wrote .body) in
     let h = subst (λ (j : ℕ). HeldBy (entered t) (below n) (treeOf (front j (builds n t o .after)))) is (k .held) in
     let r = demand2 .checking n t (front m (builds n t o .after)) (record { count = g .count; table = g .table; body = w }) in

@@ -32,6 +32,7 @@ use Rattle.promises.specs.Inputs.{Parsable}
 use Rattle.promises.specs.Demand2.{front}
 use Rattle.promises.specs.Newick.{DrawsText, ParsesRight}
 use Rattle.promises.proofs.Accepted.{parse-pass, zero-good}
+use Rattle.promises.proofs.Chosen.{value-is}
 use Rattle.promises.proofs.Wrote.{front-is, wrote}
 
 -- the numbers of a text that is read
@@ -47,9 +48,6 @@ not-fourteen : (k : ℕ) → Read k → k ≡ 14 → ⊥
 not-fourteen k (inl h) e = omega arith
 not-fourteen k (inr (inl h)) e = omega arith
 not-fourteen k (inr (inr h)) e = omega arith
-
-pub place-is : (p q : ℕ) → told 14 (value byte-place p ∷ []) ≡ told 14 (value byte-place q ∷ []) → p ≡ q
-place-is p q e = let v : (value byte-place p ∷ []) ≡ (value byte-place q ∷ []) = ap (λ (x : Told). x .values) e in cc
 
 module _ (n : ℕ) (w o : List ℕ) (c : Count n) where
   abbrev counts : List Value
@@ -82,7 +80,7 @@ module _ (n : ℕ) (w o : List ℕ) (c : Count n) where
   refused-so p (Refuse x) e h =
       let f = text-fourteen w x e in
       let z = e ∙ ap Refuse (f .1) in
-      subst (RefusedAt w) (place-is (f .0) p (sym (refused-told (f .0) z) ∙ h)) (text-refused w (f .0) .0 z)
+      subst (RefusedAt w) (value-is (f .0) p (sym (refused-told (f .0) z) ∙ h)) (text-refused w (f .0) .0 z)
 
   done-so : (parses n w o .told .number ≡ 0) ↔ Parsable n w o
   done-so = zero-good (parses n w o .told) (firstRefusal (parseLooks n w (length o))) counts told-is (parse-pass n w o)
@@ -94,7 +92,8 @@ module _ (n : ℕ) (w o : List ℕ) (c : Count n) where
     is-text : textBody w ≡ bodyOf t
     is-text = text-body w t (g .text)
 
-    parses-is : parses n w o ≡ gives (told 0 (value node-count (nodes (bodyOf t) .count) ∷ [])) (written o (bodyOf t))
+    -- what is given for a good text
+    pub parses-is : parses n w o ≡ gives (told 0 (value node-count (nodes (bodyOf t) .count) ∷ [])) (written o (bodyOf t))
     parses-is =
         subst (λ (b : List ℕ). parses n w o ≡ gives (told 0 (value node-count (nodes b .count) ∷ [])) (written o b)) is-text (rw (parse-pass n w o .1 g) refl)
 

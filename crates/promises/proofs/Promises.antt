@@ -8,6 +8,7 @@ use Rattle.collections.specs.declared.Answer as Reading
 use Rattle.entering.specs.declared.Answer as Entering
 use Rattle.ordering.specs.declared.Answer as Ordering
 use Rattle.parsing.specs.declared.Answer as Parsing
+use Rattle.rendering.specs.declared.Answer as Rendering
 use Rattle.building.specs.declared.Answer as Building
 use Rattle.checking.specs.declared.Answer as Checking
 use Rattle.collections.specs.Reads.{countsOf, readLooks, readTold}
@@ -15,6 +16,7 @@ use Rattle.listing.specs.Lists.{listLooks}
 use Rattle.entering.specs.Enters.{enterLooks, enterTold, entry}
 use Rattle.ordering.specs.Orders.{orderLooks, orderTold}
 use Rattle.parsing.specs.Parses.{parseDone, parseLooks, parseTold}
+use Rattle.rendering.specs.Renders.{renderDone, renderLooks, renderTold}
 use Rattle.building.specs.Builds.{buildLooks, buildTold, nodesIn, outcome}
 use Rattle.checking.specs.Checks.{checkLooks}
 use Rattle.promises.specs.Accepts.{Accepts}
@@ -33,6 +35,7 @@ use Rattle.promises.proofs.Listed.{good-listed}
 use Rattle.promises.proofs.Ordered.{good-ordered}
 use Rattle.promises.proofs.Parsed.{good-parsed}
 use Rattle.promises.proofs.Rebuilt.{full-known, full-rebuilt}
+use Rattle.promises.proofs.Rendered.{good-rendered, longest-text, reads-back, texts-same}
 
 -- Every bad input gets the numbered refusal of the stated order, and a refused call leaves what was lent as it was.
 pub demand1 : Demand1 koodhaxil
@@ -44,6 +47,7 @@ demand1 = record {
   building = λ n t o. chosen buildTold Building.the-variants.Done Building.the-variants.Refused (record { nodes = nodesIn (outcome n t) }) refl (λ x. refl) (buildLooks n t (length o)) _ o;
   checking = λ n t b. check-told (firstRefusal (checkLooks n t b));
   parsing = λ n w o. chosen parseTold Parsing.the-variants.Done Parsing.the-variants.Refused (parseDone w) refl (λ x. refl) (parseLooks n w (length o)) _ o;
+  rendering = λ n b o. chosen renderTold Rendering.the-variants.Done Rendering.the-variants.Refused (renderDone b) refl (λ x. refl) (renderLooks n b (length o)) _ o;
 }
 
 -- Input is refused exactly when it is not good: of any operations that keep demand 1, and so of these.
@@ -73,6 +77,7 @@ demand3 = record {
 pub all-demands : AllDemands koodhaxil
 all-demands = (demand1, demand2, demand3)
 
--- A Newick text of the form, within the limits, is read as its tree, in its order; every other one is refused at its place.
+-- A Newick text of the form, within the limits, is read as its tree, in its order; every other one is refused at its place. A good body is written as such a
+-- text, of its tree in house order, which reads back as the house-order body; two bodies have one text exactly when they have the same groups.
 pub newick : Newick koodhaxil
-newick = record { parsing = good-parsed }
+newick = record { parsing = good-parsed; rendering = good-rendered; back = reads-back; same-text = texts-same; longest = longest-text }

@@ -7,9 +7,10 @@ use Rattle.collections.specs.Reads.{readTold}
 use Rattle.entering.specs.Enters.{enterTold}
 use Rattle.ordering.specs.Orders.{orderTold}
 use Rattle.parsing.specs.Parses.{parseTold}
+use Rattle.rendering.specs.Renders.{renderTold}
 use Rattle.building.specs.Builds.{buildTold}
 use Rattle.checking.specs.Checks.{checkTold}
-use Rattle.lines.specs.Lines.{buildLine, checkLine, enterLine, listLine, orderLine, parseLine, readLine}
+use Rattle.lines.specs.Lines.{buildLine, checkLine, enterLine, listLine, orderLine, parseLine, readLine, renderLine}
 use Rattle.promises.specs.Operations.{koodhaxil}
 use Rattle.promises.specs.Linked.{Linked, Printed}
 use Rattle.promises.specs.Tied.{Tied}
@@ -29,6 +30,7 @@ tied = record {
   building = λ M 𝓤 H A mem run κs a g r s. fact-mono 𝓤 _ _ (λ h. settled-gives buildTold h);
   checking = λ M 𝓤 H A mem run κs a g r s. fact-mono 𝓤 _ _ (λ h. ap checkTold h);
   parsing = λ M 𝓤 H A mem run κs a g r s. fact-mono 𝓤 _ _ (λ h. settled-gives parseTold h);
+  rendering = λ M 𝓤 H A mem run κs a g r s. fact-mono 𝓤 _ _ (λ h. settled-gives renderTold h);
 }
 
 -- ---- so are the C functions, and the lines of `trial`
@@ -42,10 +44,11 @@ linked = record {
   building = λ M 𝓤 H A mem run κs a g r s. both-say 𝓤 (λ h k. record { handed = h; left = k });
   checking = λ M 𝓤 H A mem run κs a g r s. fact-mono 𝓤 _ _ (λ h. h);
   parsing = λ M 𝓤 H A mem run κs a g r s. both-say 𝓤 (λ h k. record { handed = h; left = k });
+  rendering = λ M 𝓤 H A mem run κs a g r s. both-say 𝓤 (λ h k. record { handed = h; left = k });
 }
 
 pub printed : Printed koodhaxil
-unfolding readLine listLine enterLine orderLine buildLine checkLine parseLine
+unfolding readLine listLine enterLine orderLine buildLine checkLine parseLine renderLine
 printed = record {
   reading = λ M 𝓤 H A mem run κs a g r s. fact-mono 𝓤 _ _ (λ h. h);
   listing = λ M 𝓤 H A mem run κs a g r s. both-say 𝓤 (λ h k. record { line = h; left = k });
@@ -54,4 +57,5 @@ printed = record {
   building = λ M 𝓤 H A mem run κs a g r s. both-say 𝓤 (λ h k. record { line = h; left = k });
   checking = λ M 𝓤 H A mem run κs a g r s. fact-mono 𝓤 _ _ (λ h. h);
   parsing = λ M 𝓤 H A mem run κs a g r s. both-say 𝓤 (λ h k. record { line = h; left = k });
+  rendering = λ M 𝓤 H A mem run κs a g r s. both-say 𝓤 (λ h k. record { line = h; left = k });
 }

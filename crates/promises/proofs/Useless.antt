@@ -47,7 +47,7 @@ use Rattle.promises.specs.Useless.{ClosingBreaks, ClosingHeld, FirstAlon
 use Rattle.promises.proofs.Alone.{alone-buildable}
 use Rattle.promises.proofs.Built.{builds-tree, good-built}
 use Rattle.promises.proofs.Checked.{good-checked}
-use Rattle.promises.proofs.Chosen.{count-is}
+use Rattle.promises.proofs.Chosen.{value-is}
 use Rattle.promises.proofs.Listed.{lists-is}
 use Rattle.promises.proofs.Runs.{starred-given}
 use Rattle.promises.proofs.Star.{star-sound}
@@ -140,7 +140,7 @@ tells99-invents =
       o = two-bytes;
       good = one-good;
       built = built;
-      other = λ e. let m = count-is 99 1 (sym (ap (λ (g : Given). g .told) (on-zero (builds 1 [] two-bytes) _ built)) ∙ e ∙ ap (λ (g : Given). g .told) ours) in omega arith;
+      other = λ e. let m = value-is 99 1 (sym (ap (λ (g : Given). g .told) (on-zero (builds 1 [] two-bytes) _ built)) ∙ e ∙ ap (λ (g : Given). g .told) ours) in omega arith;
     }
 
 pub tells99-breaks : Tells99Breaks
@@ -200,7 +200,7 @@ starry-gives n t o g k e =
     let T = star n in
     let s = star-sound n (g .count .some) in
     let q = zero-on (builds n t o) (gives (told 0 (value node-count (nodeCount T) ∷ [])) (written o (bodyOf T))) (ap (λ (x : Told). x .number) e) in
-    let m = count-is k (nodeCount T) (sym e ∙ ap (λ (h : Given). h .told) q) in
+    let m = value-is k (nodeCount T) (sym e ∙ ap (λ (h : Given). h .told) q) in
     ap₂ (λ (j : ℕ) (u : List ℕ). treeOf (front j u)) m (ap (λ (h : Given). h .after) q)
     ∙ ap treeOf (front-is n (nodeCount T) o (bodyOf T) (body-length T) (omega (arith, g .room, body-room n T (s .0) (s .1))))
     ∙ body-back n T (s .0) (s .1) (g .count .most)
@@ -231,7 +231,7 @@ pub closing-breaks : ClosingBreaks
 unfolding children treeAt
 closing-breaks d =
     let k = d .building 3 unsaid ten-bytes unsaid-good .keeps refl in
-    let a : AhoTree (entered unsaid) (treeOf cherryBody) = subst (λ (m : ℕ). AhoTree (entered unsaid) (treeOf (front m cherryBody))) (sym (count-is 5 (k .count) (k .told-is))) (k .aho) in
+    let a : AhoTree (entered unsaid) (treeOf cherryBody) = subst (λ (m : ℕ). AhoTree (entered unsaid) (treeOf (front m cherryBody))) (sym (value-is 5 (k .count) (k .told-is))) (k .aho) in
     unsaid-walk (a .0 0 1 refl refl .0 (node (cons (leaf 0) (cons (leaf 1) nil)), inl refl, refl, refl)) (omega arith)
 
 -- ---- a check that misjudges

@@ -5,7 +5,7 @@ use mathlib.Core.Path.{_≡_}
 use Prim.Native.Nat.{ℕ}
 use Rattle.collections.specs.Collection.{Collection}
 use Rattle.promises.specs.Operations.{Operations}
-use Rattle.promises.specs.Inputs.{Buildable, Checkable, Enterable, Listable, Orderable, Parsable}
+use Rattle.promises.specs.Inputs.{Buildable, Checkable, Enterable, Listable, Orderable, Parsable, Renderable}
 
 -- 10 of the build, and 11 and 12 of the check, speak of the outcome: they are no refusals of input
 pub record Accepts (L : Operations) : Type 0 where
@@ -16,3 +16,4 @@ pub record Accepts (L : Operations) : Type 0 where
   pub building : (n : ℕ) (t o : List ℕ) → ((L .build n t o .told .number ≡ 0) ⊎ (L .build n t o .told .number ≡ 10)) ↔ Buildable n t o
   pub checking : (n : ℕ) (t b : List ℕ) → ((L .check n t b .number ≡ 0) ⊎ ((L .check n t b .number ≡ 11) ⊎ (L .check n t b .number ≡ 12))) ↔ Checkable n t b
   pub parsing : (n : ℕ) (w o : List ℕ) → (L .parse n w o .told .number ≡ 0) ↔ Parsable n w o
+  pub rendering : (n : ℕ) (b o : List ℕ) → (L .render n b o .told .number ≡ 0) ↔ Renderable n b o

@@ -6,7 +6,7 @@ use mathlib.Core.Path.{_≡_}
 use Prim.Native.Nat.{ℕ}
 use lib.ListN.{length}
 use Rattle.bodies.specs.Nodes.{nodes}
-use Rattle.answers.specs.Answers.{Value, node-count, species-count, value}
+use Rattle.answers.specs.Answers.{Value, node-count, species-count, text-length, value}
 use Rattle.answers.specs.Looks.{firstRefusal, lookTold}
 use Rattle.answers.specs.declared.Look.{Look}
 use Rattle.collections.specs.Reads.{countValues, countsOf, readLooks}
@@ -14,6 +14,8 @@ use Rattle.listing.specs.Lists.{listLooks}
 use Rattle.entering.specs.Enters.{enterLooks}
 use Rattle.ordering.specs.Orders.{orderLooks}
 use Rattle.parsing.specs.Parses.{parseLooks, textBody}
+use Rattle.rendering.specs.Renders.{renderLooks}
+use Rattle.rendering.specs.Texts.{newickText}
 use Rattle.building.specs.Builds.{buildLooks, nodesIn, outcome}
 use Rattle.checking.specs.Checks.{checkLooks}
 use Rattle.promises.specs.Operations.{Given, Operations}
@@ -32,3 +34,4 @@ pub record Demand1 (L : Operations) : Type 0 where
   pub building : (n : ℕ) (t o : List ℕ) → Chosen (buildLooks n t (length o)) (value node-count (nodesIn (outcome n t)) ∷ []) o (L .build n t o)
   pub checking : (n : ℕ) (t b : List ℕ) → L .check n t b ≡ lookTold (firstRefusal (checkLooks n t b)) []
   pub parsing : (n : ℕ) (w o : List ℕ) → Chosen (parseLooks n w (length o)) (value node-count (nodes (textBody w) .count) ∷ []) o (L .parse n w o)
+  pub rendering : (n : ℕ) (b o : List ℕ) → Chosen (renderLooks n b (length o)) (value text-length (length (newickText b)) ∷ []) o (L .render n b o)

@@ -13,6 +13,7 @@ use Rattle.answers.specs.Inputs.{Body, Count, Table}
 use Rattle.collections.specs.Collection.{Collection}
 use Rattle.collections.specs.Layout.{species}
 use Rattle.entering.specs.Enters.{left, outer, right}
+use Rattle.rendering.specs.Texts.{newickText}
 
 -- "Listing: the collection's refusals, then 7"
 pub record Listable (b t : List ℕ) : Type 0 where
@@ -59,3 +60,9 @@ pub record Parsable (n : ℕ) (w o : List ℕ) : Type 0 where
   pub text : Readable w tree
   pub rules : Good n (nodes (bodyOf tree))
   pub room : length (bodyOf tree) ≤ length o
+
+-- request T-02: "2, 5, 6, 9 where the room is shorter than the text"
+pub record Renderable (n : ℕ) (b o : List ℕ) : Type 0 where
+  pub count : Count n
+  pub body : Body n b
+  pub room : length (newickText b) ≤ length o

@@ -11,6 +11,7 @@ use Rattle.lines.proofs.list_line as list-line
 use Rattle.lines.proofs.order_line as order-line
 use Rattle.lines.proofs.parse_line as parse-line
 use Rattle.lines.proofs.read_line as read-line
+use Rattle.lines.proofs.render_line as render-line
 use Rattle.lines.specs.Lines.{barred, toldText}
 use Rattle.exports.proofs.koodhaxil_build as c-build
 use Rattle.exports.proofs.koodhaxil_check as c-check
@@ -19,6 +20,7 @@ use Rattle.exports.proofs.koodhaxil_list as c-list
 use Rattle.exports.proofs.koodhaxil_order as c-order
 use Rattle.exports.proofs.koodhaxil_parse as c-parse
 use Rattle.exports.proofs.koodhaxil_read as c-read
+use Rattle.exports.proofs.koodhaxil_render as c-render
 use Rattle.triplets.specs.Spelled.{spelled}
 use Rattle.exports.specs.Codes.{Handed}
 use Rattle.promises.specs.Operations.{Given, Operations}
@@ -44,6 +46,8 @@ pub record Linked (L : Operations) : Type 2 where
       (λ κs a r s. Handed (L .check (a .0) (a .1 .0 .now) (a .1 .1 .0 .now)) (a .1 .1 .1 .0 .now) r (s .1 .1 .1 .0 .now))
   pub parsing : After c-parse.ended (λ M. c-parse.clauses)
       (λ κs a r s. Hands (L .parse (a .0) (a .1 .0 .now) (a .1 .1 .0 .now)) (a .1 .1 .1 .0 .now) r (s .1 .1 .1 .0 .now) (s .1 .1 .0 .now))
+  pub rendering : After c-render.ended (λ M. c-render.clauses)
+      (λ κs a r s. Hands (L .render (a .0) (a .1 .0 .now) (a .1 .1 .0 .now)) (a .1 .1 .1 .0 .now) r (s .1 .1 .1 .0 .now) (s .1 .1 .0 .now))
 
 -- a line was written at `at` into the text x, which is x′ now, and the next byte goes to r: the answer, and what was lent, which is o now
 pub record Prints (g : Given) (x : List ℕ) (at : ℕ) (x′ : List ℕ) (r : ℕ) (o : List ℕ) : Type 0 where
@@ -65,3 +69,5 @@ pub record Printed (L : Operations) : Type 2 where
       (λ κs a r s. Writes (a .0 .now) (a .1 .0) (ended (toldText (L .check (a .1 .1 .0) (a .1 .1 .1 .0 .now) (a .1 .1 .1 .1 .0 .now)))) (s .0 .now) r)
   pub parsing : After parse-line.ended (λ M. parse-line.clauses)
       (λ κs a r s. Prints (L .parse (a .1 .1 .0) (a .1 .1 .1 .0 .now) (a .1 .1 .1 .1 .0 .now)) (a .0 .now) (a .1 .0) (s .0 .now) r (s .1 .1 .1 .1 .0 .now))
+  pub rendering : After render-line.ended (λ M. render-line.clauses)
+      (λ κs a r s. Prints (L .render (a .1 .1 .0) (a .1 .1 .1 .0 .now) (a .1 .1 .1 .1 .0 .now)) (a .0 .now) (a .1 .0) (s .0 .now) r (s .1 .1 .1 .1 .0 .now))

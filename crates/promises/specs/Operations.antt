@@ -8,6 +8,7 @@ use Rattle.listing.specs.Lists.{listAfter, listAnswer}
 use Rattle.entering.specs.Enters.{enterAfter, enterAnswer, enterTold}
 use Rattle.ordering.specs.Orders.{orderAfter, orderAnswer, orderTold}
 use Rattle.parsing.specs.Parses.{parseAfter, parseAnswer, parseTold}
+use Rattle.rendering.specs.Renders.{renderAfter, renderAnswer, renderTold}
 use Rattle.building.specs.Builds.{buildAfter, buildAnswer, buildTold}
 use Rattle.checking.specs.Checks.{checkAnswer, checkTold}
 
@@ -43,6 +44,10 @@ Builder = ℕ → List ℕ → List ℕ → Given
 abbrev pub Parser : Type 0
 Parser = ℕ → List ℕ → List ℕ → Given
 
+-- from n, a body, and lent room, to Newick text
+abbrev pub Renderer : Type 0
+Renderer = ℕ → List ℕ → List ℕ → Given
+
 -- from n, a table and a body
 abbrev pub Checker : Type 0
 Checker = ℕ → List ℕ → List ℕ → Told
@@ -55,6 +60,7 @@ pub record Operations : Type 0 where
   pub build : Builder
   pub check : Checker
   pub parse : Parser
+  pub render : Renderer
 
 -- ---- ours: by the contract of each public function, what it answers and leaves is this and nothing else (`at-most-one` of `answers`)
 
@@ -79,5 +85,8 @@ checks n t b = checkTold (checkAnswer n t b)
 abbrev pub parses : Parser
 parses n w o = record { told = parseTold (parseAnswer n w (length o)); after = parseAfter n w o }
 
+abbrev pub renders : Renderer
+renders n b o = record { told = renderTold (renderAnswer n b (length o)); after = renderAfter n b o }
+
 abbrev pub koodhaxil : Operations
-koodhaxil = record { read = reads; list = lists; enter = enters; order = orders; build = builds; check = checks; parse = parses }
+koodhaxil = record { read = reads; list = lists; enter = enters; order = orders; build = builds; check = checks; parse = parses; render = renders }

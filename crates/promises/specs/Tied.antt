@@ -26,6 +26,8 @@ use Rattle.checking.proofs.check as check
 use Rattle.checking.specs.Checks.{checkTold}
 use Rattle.parsing.proofs.parse as parse
 use Rattle.parsing.specs.Parses.{parseTold}
+use Rattle.rendering.proofs.render as render
+use Rattle.rendering.specs.Renders.{renderTold}
 use Rattle.promises.specs.Operations.{Operations, gives}
 
 -- a contract, as the kit has it of the source: in any model of the logic, over the arguments, the result, and what the arguments hold at exit
@@ -46,3 +48,4 @@ pub record Tied (L : Operations) : Type 2 where
   pub building : After build.ended (λ M. build.clauses) (λ κs a r s. gives (buildTold r) (s .1 .1 .0 .now) ≡ L .build (a .0) (a .1 .0 .now) (a .1 .1 .0 .now))
   pub checking : After check.ended (λ M. check.clauses) (λ κs a r s. checkTold r ≡ L .check (a .0) (a .1 .0 .now) (a .1 .1 .0 .now))
   pub parsing : After parse.ended (λ M. parse.clauses) (λ κs a r s. gives (parseTold r) (s .1 .1 .0 .now) ≡ L .parse (a .0) (a .1 .0 .now) (a .1 .1 .0 .now))
+  pub rendering : After render.ended (λ M. render.clauses) (λ κs a r s. gives (renderTold r) (s .1 .1 .0 .now) ≡ L .render (a .0) (a .1 .0 .now) (a .1 .1 .0 .now))

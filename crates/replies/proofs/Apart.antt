@@ -24,6 +24,8 @@ use Rattle.ordering.specs.Orders.{orderTold}
 use Rattle.ordering.specs.declared.Answer as Ordering
 use Rattle.parsing.specs.Parses.{parseTold}
 use Rattle.parsing.specs.declared.Answer as Parsing
+use Rattle.rendering.specs.Renders.{renderTold}
+use Rattle.rendering.specs.declared.Answer as Rendering
 use Rattle.building.specs.Builds.{buildTold}
 use Rattle.building.specs.declared.Answer as Building
 use Rattle.checking.specs.Checks.{checkTold}
@@ -146,6 +148,16 @@ parse-found (Parsing.the-variants.Refused x) = refused-found parseBack Parsing.t
 
 pub parse-apart : ToldApart parseTold
 parse-apart = found-apart (λ (a : Parsing.Answer). plain (parseTold a)) (answerIn parseBack Parsing.the-variants.Refused) parse-found
+
+abbrev renderBack : Plain → Rendering.Answer
+renderBack p = Rendering.the-variants.Done (record { length = numberAt 0 p })
+
+render-found : (a : Rendering.Answer) → answerIn renderBack Rendering.the-variants.Refused (plain (renderTold a)) ≡ a
+render-found (Rendering.the-variants.Done w) = refl
+render-found (Rendering.the-variants.Refused x) = refused-found renderBack Rendering.the-variants.Refused x
+
+pub render-apart : ToldApart renderTold
+render-apart = found-apart (λ (a : Rendering.Answer). plain (renderTold a)) (answerIn renderBack Rendering.the-variants.Refused) render-found
 
 abbrev buildBack : Plain → Building.Answer
 buildBack p = Building.the-variants.Done (record { nodes = numberAt 0 p })

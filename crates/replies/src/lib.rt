@@ -5,6 +5,7 @@ ghost use Rattle.collections.specs.Reads.{readTold};
 ghost use Rattle.entering.specs.Enters.{enterTold};
 ghost use Rattle.ordering.specs.Orders.{orderTold};
 ghost use Rattle.parsing.specs.Parses.{parseTold};
+ghost use Rattle.rendering.specs.Renders.{renderTold};
 ghost use Rattle.building.specs.Builds.{buildTold};
 ghost use Rattle.checking.specs.Checks.{checkTold};
 ghost use Rattle.replies.specs.Plain.{plain};
@@ -77,6 +78,16 @@ pub fn parse(a: parsing::Answer) -> Reply
     match a {
         parsing::Answer::Done(w) => Reply::One(0, w.nodes),
         parsing::Answer::Refused(x) => refusal(x),
+    }
+}
+
+// The reply to an answer of writing a Newick text.
+pub fn render(a: rendering::Answer) -> Reply
+    ensures { λ r. ⌜ replied r ≡ plain (renderTold a) ⌝ }
+{
+    match a {
+        rendering::Answer::Done(t) => Reply::One(0, t.length),
+        rendering::Answer::Refused(x) => refusal(x),
     }
 }
 

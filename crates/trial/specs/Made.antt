@@ -8,13 +8,13 @@ use lib.Dec.{eqb}
 use lib.ListN.{getD, take}
 use Rattle.calls.specs.Calls.{CallBytes}
 use Rattle.calls.specs.Inputs.{Took}
-use Rattle.lines.specs.Lines.{buildLine, checkLine, enterLine, listLine, orderLine, parseLine, readLine}
+use Rattle.lines.specs.Lines.{buildLine, checkLine, enterLine, listLine, orderLine, parseLine, readLine, renderLine}
 use Rattle.writing.specs.Writes.{Writes}
 use Rattle.trial.specs.Records.{recordsOf}
 use Rattle.calls.specs.declared.Call.{Call}
 use Rattle.calls.specs.declared.input.Input.{Input}
 
--- the line of a call with the byte k, the number n, and the fields x and y: r reads, l lists, e enters, o puts in house order, b builds, n reads a Newick text, and c, the last one, checks
+-- the line of a call with the byte k, the number n, and the fields x and y: r reads, l lists, e enters, o puts in house order, b builds, n reads a Newick text, w writes one, and c, the last one, checks
 abbrev pub callLine : ℕ → ℕ → List ℕ → List ℕ → List ℕ
 callLine k n x y =
     cond (eqb k 114) (readLine x) (
@@ -22,7 +22,8 @@ callLine k n x y =
     cond (eqb k 101) (enterLine n (recordsOf x) y) (
     cond (eqb k 111) (orderLine n x y) (
     cond (eqb k 98) (buildLine n x y) (
-    cond (eqb k 110) (parseLine n x y) (checkLine n x y))))))
+    cond (eqb k 110) (parseLine n x y) (
+    cond (eqb k 119) (renderLine n x y) (checkLine n x y)))))))
 
 -- "cut", and byte 10
 abbrev pub cut-line : List ℕ

@@ -68,6 +68,7 @@ fn call_line(
         b'o' => lines::order_line(out, at, n, first, second),
         b'b' => lines::build_line(out, at, n, first, second),
         b'n' => lines::parse_line(out, at, n, first, second),
+        b'w' => lines::render_line(out, at, n, first, second),
         _ => lines::check_line(out, at, n, first, second),
     }
 }

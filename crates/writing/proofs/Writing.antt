@@ -1,11 +1,12 @@
 -- What is written behind what. Assumes nothing.
 use mathlib.Core.List.{List, [], _∷_, _++_, append-assoc, append-nil}
-use mathlib.Core.Path.{_∙_, _≡_, ap, refl, subst, sym}
-use Prim.Native.Nat.{ℕ, _+_, _<_, _≤_}
+use mathlib.Core.Path.{_∙_, _≡_, ap, ap₂, refl, subst, sym}
+use Prim.Native.Nat.{ℕ, suc, _+_, _<_, _≤_}
+use native.Mathlib.Nat.{zero-add}
 use native.Mathlib.Numerals.{add-one}
 use native.Mathlib.Omega.{arith}
-use lib.ListN.{getD, length, length-append, length-set, set, take}
-use lib.Seq.{take-suc, take-suc-set}
+use lib.ListN.{drop, getD, length, length-append, length-set, set, take}
+use lib.Seq.{paste-suc, take-suc, take-suc-set}
 use Rattle.writing.specs.Writes.{Writes}
 
 module _ (o : List ℕ) (at : ℕ) where
@@ -35,3 +36,9 @@ module _ (o : List ℕ) (at : ℕ) where
 -- the front of a list, with one more
 pub front-more : (w : List ℕ) (i : ℕ) → i < length w → take i w ++ (getD w i 0 ∷ []) ≡ take (i + 1) w
 front-more w i h = sym (ap (λ (j : ℕ). take j w) (add-one i) ∙ take-suc w i 0 h)
+
+-- one byte more copied
+pub copy-more : (o w : List ℕ) (j : ℕ) → j < length o → j < length w → set (take j w ++ drop j o) j (getD w j 0) ≡ take (j + 1) w ++ drop (j + 1) o
+copy-more o w j ho hw =
+    ap₂ (λ (i k : ℕ). set (take j w ++ drop i o) k (getD w j 0)) (sym (zero-add j)) (sym (zero-add j)) ∙ paste-suc o 0 w j 0 (omega arith) hw
+    ∙ ap₂ (λ (i k : ℕ). take i w ++ drop k o) (sym (add-one j)) (zero-add (suc j) ∙ sym (add-one j))

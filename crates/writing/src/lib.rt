@@ -1,8 +1,8 @@
-// Text into lent bytes: each function writes at `at`, and answers where the next byte goes.
+// Text into lent bytes: each function that puts writes at `at`, and answers where the next byte goes.
 ghost use mathlib.Core.Path.{_≡_};
-ghost use mathlib.Core.List.{[], _∷_};
+ghost use mathlib.Core.List.{[], _∷_, _++_};
 ghost use Prim.Native.Nat.{_+_, _*_, _<_, _≤_};
-ghost use lib.ListN.{length};
+ghost use lib.ListN.{length, take, drop};
 ghost use Rattle.writing.specs.Texts.{decimal, spaced};
 ghost use Rattle.writing.specs.Writes.{Writes};
 
@@ -72,4 +72,16 @@ pub fn put_bytes(out: &mut [u8], at: usize, l: &[u8]) -> usize
         i += 1;
     }
     next
+}
+
+// Lays the first `end` bytes of a text over the front of room.
+pub fn copy(text: &[u8], end: usize, room: &mut [u8])
+    requires { ⌜ (end ≤ length (now text)) × (end ≤ length (now room)) ⌝ }
+    ensures { λ _. ⌜ now (room .exit) ≡ take end (now (text .entry)) ++ drop end (now (room .entry)) ⌝ }
+{
+    let mut i = 0;
+    while i < end {
+        room[i] = text[i];
+        i += 1;
+    }
 }

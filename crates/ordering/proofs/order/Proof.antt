@@ -12,7 +12,7 @@ use Rattle.answers.specs.Looks.{andThen, firstRefusal, lookCount, lookLength, l
 use Rattle.answers.specs.declared.Look.{Look}
 use Rattle.answers.specs.declared.Look.the-variants.{Pass}
 use Rattle.answers.specs.declared.Refusal.the-variants.{ShortRoom}
-use Rattle.ordering.proofs.Ready.{Ready, is-ready}
+use Rattle.children.proofs.Ready.{Ready, is-ready}
 use Rattle.ordering.proofs.order.Statement.{statement}
 use Rattle.ordering.proofs.order.Tie as tie
 
@@ -45,7 +45,8 @@ module _ (c : tie.After-enum-told) where
   ready =
       let x = c .before .before in
       let p = then-pass (lookCount (n x)) _ .0 passed in
-      is-ready (n x) (body x) (count-pass (n x) .0 (p .0)) (body-pass 0 (n x) (body x) .0 (p .1))
+      let h = body-pass 0 (n x) (body x) .0 (p .1) in
+      is-ready (n x) (body x) (count-pass (n x) .0 (p .0) .most) (h .good) (h .long)
 
 look-count-requires : tie.Need-look-count-requires
 look-count-requires c κs = search needs

@@ -22,6 +22,9 @@ build-line-requires c κs = search needs
 parse-line-requires : tie.Need-parse-line-requires
 parse-line-requires c κs = search needs
 
+render-line-requires : tie.Need-render-line-requires
+render-line-requires c κs = search needs
+
 check-line-requires : tie.Need-check-line-requires
 check-line-requires c κs = search needs
 
@@ -99,9 +102,20 @@ same-length-14 c = search needs
 
 returns-7 : tie.Need-returns-7
 returns-7 c =
+    let s = c .before .before .before .before .before .before .before .before .before .before .before in
+    line-same _ 119 (s .args .n) (s .args .first .now) (s .args .second .now) (c .before .before .before .before .before .before .before .match .keys7) (c .before .before .before .before .render-line .ensures .0)
+
+same-length-15 : tie.Need-same-length-15
+same-length-15 c = search needs
+
+same-length-16 : tie.Need-same-length-16
+same-length-16 c = search needs
+
+returns-8 : tie.Need-returns-8
+returns-8 c =
     let s = c .before .before .before .before .before .before .before .before .before in
     let k = c .before .before .before .before .before .match .rest in
-    line-check (s .args .byte) (s .args .n) (s .args .first .now) (s .args .second .now) (k .0 .0 .0 .0 .0 .1) (k .0 .0 .0 .0 .1) (k .0 .0 .0 .1) (k .0 .0 .1) (k .0 .1) (k .1) (c .before .before .check-line .ensures)
+    line-check (s .args .byte) (s .args .n) (s .args .first .now) (s .args .second .now) (k .0 .0 .0 .0 .0 .0 .1) (k .0 .0 .0 .0 .0 .1) (k .0 .0 .0 .0 .1) (k .0 .0 .0 .1) (k .0 .0 .1) (k .0 .1) (k .1) (c .before .before .check-line .ensures)
 
 pub call-line-spec : {M : Type 1} → statement M
 call-line-spec =
@@ -113,6 +127,7 @@ call-line-spec =
     order-line-requires
     build-line-requires
     parse-line-requires
+    render-line-requires
     check-line-requires
     same-length
     returns
@@ -134,4 +149,7 @@ call-line-spec =
     returns-6
     same-length-13
     same-length-14
-    returns-7)
+    returns-7
+    same-length-15
+    same-length-16
+    returns-8)
