@@ -67,17 +67,19 @@ int main(void)
     uint8_t tree[KOODHAXIL_ROOM(N)], again[KOODHAXIL_ROOM(N)], text[KOODHAXIL_TEXT_ROOM];
     size_t values[KOODHAXIL_VALUES];
     size_t number, nodes, species;
+    uint64_t occurring;
 
     number = koodhaxil_read(papers, sizeof papers, values, KOODHAXIL_VALUES);
     if (number != KOODHAXIL_DONE) return unexpected("reading", number);
     printf("read: %zu species, %zu trees\n", values[0], values[1]);
+    occurring = values[2];
 
     number = koodhaxil_list(papers, sizeof papers, table, sizeof table, values, KOODHAXIL_VALUES);
     if (number != KOODHAXIL_DONE) return unexpected("listing", number);
     printf("listed:");
     print_table(table);
 
-    number = koodhaxil_build(N, table, sizeof table, tree, sizeof tree, values, KOODHAXIL_VALUES);
+    number = koodhaxil_build(N, occurring, table, sizeof table, tree, sizeof tree, values, KOODHAXIL_VALUES);
     if (number != KOODHAXIL_DONE) return unexpected("building", number);
     nodes = values[0];
     printf("built: ");
@@ -128,9 +130,20 @@ int main(void)
     printf("entered:");
     print_table(table);
 
+    /* Species 5 stands in no record: it is not in the tree of what occurs, and hangs from the root in that of all six. */
+    number = koodhaxil_build(N, values[1], table, sizeof table, tree, sizeof tree, values, KOODHAXIL_VALUES);
+    if (number != KOODHAXIL_DONE) return unexpected("building", number);
+    printf("built of what occurs: ");
+    print_tree(tree, values[0], 0);
+    number = koodhaxil_build(N, KOODHAXIL_ALL(N), table, sizeof table, tree, sizeof tree, values, KOODHAXIL_VALUES);
+    if (number != KOODHAXIL_DONE) return unexpected("building", number);
+    printf("; of all six: ");
+    print_tree(tree, values[0], 0);
+    printf("\n");
+
     /* With 02|1 beside 01|2 no tree is left. */
     table[KOODHAXIL_INDEX(0, 1, 2)] |= 2;
-    number = koodhaxil_build(N, table, sizeof table, tree, sizeof tree, values, KOODHAXIL_VALUES);
+    number = koodhaxil_build(N, KOODHAXIL_ALL(N), table, sizeof table, tree, sizeof tree, values, KOODHAXIL_VALUES);
     if (number != KOODHAXIL_NO_TREE) return unexpected("building", number);
     printf("building with 02|1 beside 01|2: refused with %zu, no tree holds what is said of the species", number);
     for (species = 0; species < N; species++) {

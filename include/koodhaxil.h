@@ -20,6 +20,9 @@
  * A table has C(n,3) bytes, one for each triple a < b < c, at the place KOODHAXIL_INDEX(a, b, c). In it 1 stands for ab|c, 2 for ac|b and 4 for
  * bc|a, added together; 0 says nothing.
  *
+ * A set of species is a uint64_t: bit i stands for species i. A species occurs in a collection where some tree has it, in a triplet or not; in records
+ * where some record has it.
+ *
  * House order: nodes in preorder, children by their lowest species.
  *
  * A Newick text writes a tree: a species is its number in decimal, and a node with children is a bracket with these between commas, as in
@@ -68,7 +71,8 @@ extern "C" {
 
 /* The numbers, and behind each one what is laid into `values`. A tree number is 0 where there is only one body. */
 enum koodhaxil_number {
-    KOODHAXIL_DONE = 0,          /* done                                               read, list: n, tree count; enter: n; */
+    KOODHAXIL_DONE = 0,          /* done                                               read, list: n, tree count, set that occurs; */
+                                 /*                                                    enter: n, set that occurs; */
                                  /*                                                    order, build, parse: node count; check: nothing; */
                                  /*                                                    render: length of the text */
     KOODHAXIL_BAD_VERSION = 1,   /* the version byte is not 1                          nothing */
@@ -84,7 +88,9 @@ enum koodhaxil_number {
     KOODHAXIL_CONTRADICTED = 11, /* an entered triplet contradicts the tree            triple index, table byte */
     KOODHAXIL_UNFORCED = 12,     /* a triplet of the tree is not forced                triple index */
     KOODHAXIL_BAD_RECORD = 13,   /* a record repeats a species or has one not below n  the first such record */
-    KOODHAXIL_BAD_TEXT = 14      /* no Newick text, or over a limit                    byte place */
+    KOODHAXIL_BAD_TEXT = 14,     /* no Newick text, or over a limit                    byte place */
+    KOODHAXIL_BAD_SET = 15,      /* the set is empty, or has a bit at n or above       nothing */
+    KOODHAXIL_OUTSIDE = 16       /* the table speaks of a species outside the set      triple index */
 };
 
 /* The faults of refusal 6, and what each one carries. */
@@ -117,9 +123,13 @@ enum koodhaxil_fault {
 /* Places of `values` for the longest answer. */
 #define KOODHAXIL_VALUES 4
 
-/* For n of 1 or more: the length of a table, C(n,3), which is 0 for 1 or 2 species; and the room that a build asks for, 4n - 2. */
+/* For n of 1 or more: the length of a table, C(n,3), which is 0 for 1 or 2 species. For s species in a set, 1 or more: the room that a build asks
+ * for, 4s - 2. */
 #define KOODHAXIL_TABLE(n) ((size_t)(n) * ((size_t)(n) - 1) * ((size_t)(n) - 2) / 6)
-#define KOODHAXIL_ROOM(n) (4 * (size_t)(n) - 2)
+#define KOODHAXIL_ROOM(s) (4 * (size_t)(s) - 2)
+
+/* For n of 1 to 64: the set of all n species. */
+#define KOODHAXIL_ALL(n) (UINT64_MAX >> (64 - (n)))
 
 /* The index of the triple a < b < c: C(c,3) + C(b,2) + a. koodhaxil_triple goes back. */
 #define KOODHAXIL_INDEX(a, b, c) (KOODHAXIL_TABLE(c) + (size_t)(b) * ((size_t)(b) - 1) / 2 + (size_t)(a))
@@ -165,11 +175,13 @@ size_t koodhaxil_order(size_t n, const uint8_t *body, size_t body_length, uint8_
                        size_t values_length);
 
 /*
- * Builds Aho's tree of all n species: it holds every entered triplet, and has no group that these do not give. In house order, to the front of the
- * room, which has 4n - 2 bytes or more. Refused with 10 exactly when no tree holds every entered triplet.
- * Refusals: 2, 7, 8, 9, 10.
+ * Builds Aho's tree of the species of a set: it has exactly these, holds every entered triplet, and has no group that these do not give. In house order,
+ * to the front of the room, which has 4s - 2 bytes or more for s species in the set. Handed the set that listing or entering returned, a species that no
+ * paper mentions is not in the tree; handed KOODHAXIL_ALL(n), it hangs from the root. Refused with 10 exactly when no tree with exactly these species
+ * holds every entered triplet; with 16 at the first triple whose byte is not 0 and whose three species are not all in the set.
+ * Refusals: 2, 7, 8, 15, 16, 9, 10.
  */
-size_t koodhaxil_build(size_t n, const uint8_t *table, size_t table_length, uint8_t *room, size_t room_length, size_t *values,
+size_t koodhaxil_build(size_t n, uint64_t set, const uint8_t *table, size_t table_length, uint8_t *room, size_t room_length, size_t *values,
                        size_t values_length);
 
 /*

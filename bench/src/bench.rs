@@ -14,6 +14,7 @@ const N: usize = 64;
 const TABLE: usize = 41_664;
 const BODY: usize = 254;
 const TEXT: usize = 308;
+const ALL: u64 = u64::MAX;
 const TWIN_LIMIT: f64 = 1.3;
 const ORDER_LIMIT: f64 = 1.5;
 const TREES_LIMIT: f64 = 17.0;
@@ -21,14 +22,14 @@ const CHECK_GUIDES: [f64; 4] = [10.0, 20.0, 10.0, 50.0];
 const ROUNDS: usize = 61;
 const SAMPLE: Duration = Duration::from_micros(1_000);
 
-// The operations of one side, the library or the twin. Putting in house order, building, reading a text and writing one go from n and a body, a table
-// or a text to a body or a text.
+// The operations of one side, the library or the twin. Putting in house order, building over a set, reading a text and writing one go from n and a
+// body, a table or a text to a body or a text.
 struct Side {
     read: fn(&[u8], &mut [usize]) -> usize,
     list: fn(&[u8], &mut [u8], &mut [usize]) -> usize,
     enter: fn(usize, &[[u8; 3]], &mut [u8], &mut [usize]) -> usize,
     order: fn(usize, &[u8], &mut [u8], &mut [usize]) -> usize,
-    build: fn(usize, &[u8], &mut [u8], &mut [usize]) -> usize,
+    build: fn(usize, u64, &[u8], &mut [u8], &mut [usize]) -> usize,
     check: fn(usize, &[u8], &[u8], &mut [usize]) -> usize,
     parse: fn(usize, &[u8], &mut [u8], &mut [usize]) -> usize,
     render: fn(usize, &[u8], &mut [u8], &mut [usize]) -> usize,
@@ -112,14 +113,14 @@ fn told(lent: usize, call: impl FnOnce(&mut [u8], &mut [usize]) -> usize) -> Tol
     (call(&mut lent, &mut values), values, lent)
 }
 
-// What one side tells of a run. Every table that is filled has to be the run's own, and the tree built from it the tree in house order; so has
-// the body read from the text, once it is put in house order, and the body read from the text that is written.
+// What one side tells of a run. Every table that is filled has to be the run's own, every species occurs, and the tree built from the table is the
+// tree in house order; so is the body read from the text, once it is put in house order, and the body read from the text that is written.
 fn answers(side: &Side, run: &Run) -> Option<Vec<Told>> {
     let reads = [&run.one, &run.sixteen].map(|bytes| told(0, |_, values| (side.read)(bytes, values)));
     let lists = [&run.one, &run.sixteen].map(|bytes| told(TABLE, |table, values| (side.list)(bytes, table, values)));
     let entered = told(TABLE, |table, values| (side.enter)(N, &run.records, table, values));
     let ordered = told(BODY, |room, values| (side.order)(N, &run.tree, room, values));
-    let built = told(BODY, |room, values| (side.build)(N, &run.table, room, values));
+    let built = told(BODY, |room, values| (side.build)(N, ALL, &run.table, room, values));
     let parsed = told(BODY, |room, values| (side.parse)(N, &run.text, room, values));
     let body = parsed.2.get(..2 * parsed.1[0]).unwrap_or_default();
     let housed = told(BODY, |room, values| (side.order)(N, body, room, values));
@@ -127,9 +128,10 @@ fn answers(side: &Side, run: &Run) -> Option<Vec<Told>> {
     let written = rendered.2.get(..rendered.1[0]).unwrap_or_default();
     let again = told(BODY, |room, values| (side.parse)(N, written, room, values));
     let filled = lists.iter().chain([&entered]).all(|(_, _, table)| *table == run.table);
+    let occur = reads.iter().chain(&lists).map(|(_, values, _)| values[2]).chain([entered.1[1]]).all(|set| set as u64 == ALL);
     let same = ordered == built && ordered == housed && ordered == again;
     let all: Vec<Told> = reads.into_iter().chain(lists).chain([entered, ordered, built, parsed, rendered]).collect();
-    (filled && same && all.iter().all(|(number, ..)| *number == 0)).then_some(all)
+    (filled && occur && same && all.iter().all(|(number, ..)| *number == 0)).then_some(all)
 }
 
 fn checked(side: &Side, candidate: &Candidate) -> Told {
@@ -271,7 +273,7 @@ fn ordering<'a>(side: &Side, tree: &'a [u8]) -> impl FnMut() + 'a {
 
 fn building<'a>(side: &Side, table: &'a [u8]) -> impl FnMut() + 'a {
     let build = side.build;
-    filling(BODY, move |room, values| build(N, black_box(table), room, values))
+    filling(BODY, move |room, values| build(N, black_box(ALL), black_box(table), room, values))
 }
 
 fn parsing<'a>(side: &Side, text: &'a [u8]) -> impl FnMut() + 'a {

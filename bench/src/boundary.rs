@@ -18,7 +18,16 @@ extern "C" {
 
     fn koodhaxil_order(n: usize, body: *const u8, body_len: usize, room: *mut u8, room_len: usize, values: *mut usize, values_len: usize) -> usize;
 
-    fn koodhaxil_build(n: usize, t: *const u8, t_len: usize, room: *mut u8, room_len: usize, values: *mut usize, values_len: usize) -> usize;
+    fn koodhaxil_build(
+        n: usize,
+        set: u64,
+        t: *const u8,
+        t_len: usize,
+        room: *mut u8,
+        room_len: usize,
+        values: *mut usize,
+        values_len: usize,
+    ) -> usize;
 
     fn koodhaxil_check(n: usize, t: *const u8, t_len: usize, body: *const u8, body_len: usize, values: *mut usize, values_len: usize) -> usize;
 
@@ -53,10 +62,10 @@ pub fn order(n: usize, body: &[u8], room: &mut [u8], values: &mut [usize]) -> us
     unsafe { koodhaxil_order(n, body.as_ptr(), body.len(), room.as_mut_ptr(), room.len(), values.as_mut_ptr(), values.len()) }
 }
 
-/// Builds the tree of the table `t` over `n` species, into the front of `room`: the number and the values as for `read`.
-pub fn build(n: usize, t: &[u8], room: &mut [u8], values: &mut [usize]) -> usize {
+/// Builds the tree of the table `t` over a set of `n` species, into the front of `room`: the number and the values as for `read`.
+pub fn build(n: usize, set: u64, t: &[u8], room: &mut [u8], values: &mut [usize]) -> usize {
     // SAFETY: as above.
-    unsafe { koodhaxil_build(n, t.as_ptr(), t.len(), room.as_mut_ptr(), room.len(), values.as_mut_ptr(), values.len()) }
+    unsafe { koodhaxil_build(n, set, t.as_ptr(), t.len(), room.as_mut_ptr(), room.len(), values.as_mut_ptr(), values.len()) }
 }
 
 /// Checks the candidate of a body against the table `t` over `n` species: the number and the values as for `read`.

@@ -1,6 +1,6 @@
 // What the second program (`second/`) says, in the form of the C functions: the number, the values as they are laid, and what is written.
 
-use crate::operations::{self, Refusal};
+use crate::operations::{self, Collection, Refusal};
 use crate::trees::Fault;
 
 pub struct Told {
@@ -15,7 +15,7 @@ fn told(number: usize, values: &[usize]) -> Told {
 // A fault is a kind, 1 to 4 in document 01's order, and what it carries.
 fn refused(refusal: Refusal) -> Told {
     let values = match refusal {
-        Refusal::Version | Refusal::Size | Refusal::TableLength | Refusal::Room => vec![],
+        Refusal::Version | Refusal::Size | Refusal::TableLength | Refusal::Room | Refusal::Set => vec![],
         Refusal::Short { tree } | Refusal::BodyLength { tree } => vec![tree],
         Refusal::LeftOver { count } => vec![count],
         Refusal::TreeRule { tree, node, fault } => {
@@ -30,15 +30,20 @@ fn refused(refusal: Refusal) -> Told {
         Refusal::TableByte { place } | Refusal::Text { place } => vec![place],
         Refusal::NoTree { set } => vec![set as usize],
         Refusal::Contradicted { triple, byte } => vec![triple, byte as usize],
-        Refusal::NotForced { triple } => vec![triple],
+        Refusal::NotForced { triple } | Refusal::Outside { triple } => vec![triple],
         Refusal::Record { record } => vec![record],
     };
     told(refusal.number() as usize, &values)
 }
 
+// A set comes as a number like the others.
+fn counts(collection: Collection) -> Told {
+    told(0, &[collection.n, collection.trees.len(), collection.species() as usize])
+}
+
 pub fn read(b: &[u8]) -> Told {
     match operations::read(b) {
-        Ok(collection) => told(0, &[collection.n, collection.trees.len()]),
+        Ok(collection) => counts(collection),
         Err(refusal) => refused(refusal),
     }
 }
@@ -47,7 +52,7 @@ pub fn read(b: &[u8]) -> Told {
 pub fn list(b: &[u8], room: usize) -> (Told, Option<Vec<u8>>) {
     let mut table = vec![0; room];
     match operations::list(b, &mut table) {
-        Ok((n, trees)) => (told(0, &[n, trees]), Some(table)),
+        Ok(collection) => (counts(collection), Some(table)),
         Err(refusal) => (refused(refusal), None),
     }
 }
@@ -56,21 +61,15 @@ pub fn list(b: &[u8], room: usize) -> (Told, Option<Vec<u8>>) {
 pub fn enter(n: usize, records: &[[u8; 3]], room: usize) -> (Told, Option<Vec<u8>>) {
     let mut table = vec![0; room];
     match operations::enter(n as u64, records, &mut table) {
-        Ok(n) => (told(0, &[n]), Some(table)),
+        Ok((n, set)) => (told(0, &[n, set as usize]), Some(table)),
         Err(refusal) => (refused(refusal), None),
     }
 }
 
 // What an operation tells that writes to a room of so many bytes and returns a count, of nodes or of bytes; and what it writes to the front.
-fn written(
-    operation: fn(u64, &[u8], &mut [u8]) -> Result<usize, Refusal>,
-    n: usize,
-    from: &[u8],
-    room: usize,
-    bytes_each: usize,
-) -> (Told, Option<Vec<u8>>) {
+fn written(room: usize, bytes_each: usize, operation: impl FnOnce(&mut [u8]) -> Result<usize, Refusal>) -> (Told, Option<Vec<u8>>) {
     let mut room = vec![0; room];
-    match operation(n as u64, from, &mut room) {
+    match operation(&mut room) {
         Ok(count) => {
             room.truncate(bytes_each * count);
             (told(0, &[count]), Some(room))
@@ -81,22 +80,22 @@ fn written(
 
 /// What putting a body over `n` species in house order tells, with `room` bytes to write to, and what is written to their front.
 pub fn order(n: usize, body: &[u8], room: usize) -> (Told, Option<Vec<u8>>) {
-    written(operations::order, n, body, room, 2)
+    written(room, 2, |room| operations::order(n as u64, body, room))
 }
 
-/// What building from a table over `n` species tells, with `room` bytes to write to, and what is written to their front.
-pub fn build(n: usize, table: &[u8], room: usize) -> (Told, Option<Vec<u8>>) {
-    written(operations::build, n, table, room, 2)
+/// What building from a table over a set of `n` species tells, with `room` bytes to write to, and what is written to their front.
+pub fn build(n: usize, set: u64, table: &[u8], room: usize) -> (Told, Option<Vec<u8>>) {
+    written(room, 2, |room| operations::build(n as u64, set, table, room))
 }
 
 /// What reading a Newick text over `n` species tells, with `room` bytes to write to, and what is written to their front.
 pub fn parse(n: usize, text: &[u8], room: usize) -> (Told, Option<Vec<u8>>) {
-    written(operations::parse, n, text, room, 2)
+    written(room, 2, |room| operations::parse(n as u64, text, room))
 }
 
 /// What writing a body over `n` species as Newick text tells, with `room` bytes to write to, and what is written to their front.
 pub fn render(n: usize, body: &[u8], room: usize) -> (Told, Option<Vec<u8>>) {
-    written(operations::render, n, body, room, 1)
+    written(room, 1, |room| operations::render(n as u64, body, room))
 }
 
 /// What checking a body against a table over `n` species tells.

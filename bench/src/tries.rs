@@ -1,6 +1,6 @@
 // Tries the library on good and bad input. The answers of the fixed list are written out by hand from documents 01 and 02; those of the random
-// collections, lists of records, bodies, tables, candidates and texts, of all small candidates, and of all indices, come from the second program
-// (`second/`). What a call must leave alone holds a pattern before it, and is compared after it.
+// collections, lists of records, bodies, tables, sets, candidates and texts, of all small candidates and sets, and of all indices, come from the
+// second program (`second/`). What a call must leave alone holds a pattern before it, and is compared after it.
 
 mod boundary;
 mod plain;
@@ -40,6 +40,7 @@ use shapes::{body, candidates, collection, joined, shuffled, text, Dice, Shape, 
 use std::fmt::Debug;
 use std::hint::black_box;
 use trees::Tree;
+use triples::all;
 
 const COLLECTIONS: usize = 100_000;
 const LISTS: usize = 20_000;
@@ -48,7 +49,7 @@ const TABLES: usize = 50_000;
 const TREES: usize = 5_000;
 const CANDIDATES: usize = 30_000;
 const TEXTS: usize = 50_000;
-const NUMBERS: usize = 15;
+const NUMBERS: usize = 17;
 const MOST_VALUES: usize = 6;
 const SHOWN: usize = 3;
 
@@ -59,7 +60,8 @@ enum Call<'a> {
     List(&'a [u8], usize),
     Enter(usize, &'a [[u8; 3]], usize),
     Order(usize, &'a [u8], usize),
-    Build(usize, &'a [u8], usize),
+    // n, a set and a table.
+    Build(usize, u64, &'a [u8], usize),
     // A table and a body, which are only read.
     Check(usize, &'a [u8], &'a [u8]),
     Parse(usize, &'a [u8], usize),
@@ -88,7 +90,7 @@ impl Tally {
     fn call(&mut self, name: &str, call: Call, places: usize, told: &Told, filled: Option<&[u8]>) {
         let room = match call {
             Call::Read(_) | Call::Check(..) | Call::Triple(_) => 0,
-            Call::List(_, room) | Call::Enter(_, _, room) | Call::Build(_, _, room) => room,
+            Call::List(_, room) | Call::Enter(_, _, room) | Call::Build(_, _, _, room) => room,
             Call::Order(_, _, room) | Call::Parse(_, _, room) | Call::Render(_, _, room) => room,
         };
         let mut values: Vec<usize> = (0..places).map(|i| 9_000_000_000 + i).collect();
@@ -108,7 +110,7 @@ impl Tally {
             Call::List(bytes, _) => boundary::list(bytes, &mut lent, &mut values),
             Call::Enter(n, records, _) => boundary::enter(n, records, &mut lent, &mut values),
             Call::Order(n, body, _) => boundary::order(n, body, &mut lent, &mut values),
-            Call::Build(n, table, _) => boundary::build(n, table, &mut lent, &mut values),
+            Call::Build(n, set, table, _) => boundary::build(n, set, table, &mut lent, &mut values),
             Call::Check(n, table, _) => boundary::check(n, &lent[..table.len()], &lent[table.len()..], &mut values),
             Call::Parse(n, text, _) => boundary::parse(n, text, &mut lent, &mut values),
             Call::Render(n, body, _) => boundary::render(n, body, &mut lent, &mut values),
@@ -143,13 +145,14 @@ impl Tally {
         }
     }
 
-    fn good(&mut self, name: &str, bytes: &[u8], values: [usize; 2], table: &[u8]) {
+    // n, the number of trees and the set that occurs; and the table.
+    fn good(&mut self, name: &str, bytes: &[u8], values: [usize; 3], table: &[u8]) {
         self.calls(name, Call::Read(bytes), 0, &values, None);
         self.calls(name, Call::List(bytes, table.len()), 0, &values, Some(table));
     }
 
-    fn entered(&mut self, name: &str, n: usize, records: &[[u8; 3]], table: &[u8]) {
-        self.calls(name, Call::Enter(n, records, table.len()), 0, &[n], Some(table));
+    fn entered(&mut self, name: &str, n: usize, set: usize, records: &[[u8; 3]], table: &[u8]) {
+        self.calls(name, Call::Enter(n, records, table.len()), 0, &[n, set], Some(table));
     }
 
     // Rooms of the least length and of some more.
@@ -159,15 +162,25 @@ impl Tally {
         }
     }
 
+    // Built over all n species.
     fn built(&mut self, name: &str, n: usize, table: &[u8], body: &[u8]) {
+        self.built_over(name, n, all(n), table, body);
+    }
+
+    fn built_over(&mut self, name: &str, n: usize, set: u64, table: &[u8], body: &[u8]) {
         for more in [0, 1, 2, 300] {
-            self.calls(name, Call::Build(n, table, 4 * n - 2 + more), 0, &[body.len() / 2], Some(body));
+            self.calls(name, Call::Build(n, set, table, body_room(set) + more), 0, &[body.len() / 2], Some(body));
         }
     }
 
-    fn no_tree(&mut self, name: &str, n: usize, table: &[u8], set: usize) {
+    // A set that stops, built over all n species.
+    fn no_tree(&mut self, name: &str, n: usize, table: &[u8], stop: usize) {
+        self.no_tree_over(name, n, all(n), table, stop);
+    }
+
+    fn no_tree_over(&mut self, name: &str, n: usize, set: u64, table: &[u8], stop: usize) {
         for more in [0, 1, 300] {
-            self.calls(name, Call::Build(n, table, 4 * n - 2 + more), 10, &[set], None);
+            self.calls(name, Call::Build(n, set, table, body_room(set) + more), 10, &[stop], None);
         }
     }
 
@@ -234,7 +247,7 @@ fn show(name: &str, call: Call, places: usize, wanted: &Outcome, got: &Outcome) 
         Call::List(bytes, room) => (format!("list, table of {room} bytes"), bytes.len(), start(bytes)),
         Call::Enter(n, records, room) => (format!("enter, n {n}, table of {room} bytes"), records.len(), start(records)),
         Call::Order(n, body, room) => (format!("order, n {n}, room of {room} bytes"), body.len(), start(body)),
-        Call::Build(n, table, room) => (format!("build, n {n}, room of {room} bytes"), table.len(), start(table)),
+        Call::Build(n, set, table, room) => (format!("build, n {n}, set {set}, room of {room} bytes"), table.len(), start(table)),
         Call::Check(n, table, body) => (format!("check, n {n}, body {}", start(body)), table.len(), start(table)),
         Call::Parse(n, text, room) => (format!("parse, n {n}, room of {room} bytes"), text.len(), format!("{:?}", String::from_utf8_lossy(text))),
         Call::Render(n, body, room) => (format!("render, n {n}, room of {room} bytes"), body.len(), start(body)),
@@ -248,6 +261,11 @@ fn show(name: &str, call: Call, places: usize, wanted: &Outcome, got: &Outcome) 
     if let Some(&i) = places.first() {
         println!("  table, room or body: {} bytes differ, the first at {i}: wanted {}, got {}", places.len(), wanted.lent[i], got.lent[i]);
     }
+}
+
+// The room for a tree of a set that is not empty.
+fn body_room(set: u64) -> usize {
+    4 * set.count_ones() as usize - 2
 }
 
 // A collection of one tree.
@@ -366,25 +384,32 @@ fn cuts_and_left_over(tally: &mut Tally) {
 }
 
 fn good_ones(tally: &mut Tally) {
-    tally.good("n 1, no tree", &[1, 1, 0], [1, 0], &[]);
-    tally.good("n 64, no tree", &[1, 64, 0], [64, 0], &[0; 41_664]);
-    tally.good("n 1, the lone leaf", &one(1, &[255, 0]), [1, 1], &[]);
-    tally.good("n 2", &one(2, &[255, 255, 0, 1, 0, 0]), [2, 1], &[]);
-    tally.good("the lone leaf 63 of 64", &one(64, &[255, 63]), [64, 1], &[0; 41_664]);
-    tally.good("16 lone leaves", &collection(4, &vec![vec![255, 3]; 16]), [4, 16], &[0; 4]);
-    tally.good("a fan", &one(3, &[255, 255, 0, 0, 0, 1, 0, 2]), [3, 1], &[0]);
-    tally.good("01|2", &one(3, &[255, 255, 0, 255, 1, 0, 1, 1, 0, 2]), [3, 1], &[1]);
-    tally.good("02|1", &one(3, &[255, 255, 0, 255, 1, 0, 0, 1, 1, 2]), [3, 1], &[2]);
-    tally.good("12|0", &one(3, &[255, 255, 0, 0, 0, 255, 2, 2, 2, 1]), [3, 1], &[4]);
-    tally.good("(((0,1),2),3)", &one(4, &LADDER), [4, 1], &[1, 1, 1, 1]);
-    tally.good("((0,1),(2,3))", &one(4, &[255, 255, 0, 255, 0, 255, 1, 0, 1, 1, 2, 2, 2, 3]), [4, 1], &[1, 1, 4, 4]);
+    tally.good("n 1, no tree", &[1, 1, 0], [1, 0, 0], &[]);
+    tally.good("n 64, no tree", &[1, 64, 0], [64, 0, 0], &[0; 41_664]);
+    tally.good("n 1, the lone leaf", &one(1, &[255, 0]), [1, 1, 1], &[]);
+    tally.good("n 2", &one(2, &[255, 255, 0, 1, 0, 0]), [2, 1, 3], &[]);
+    tally.good("the lone leaf 63 of 64", &one(64, &[255, 63]), [64, 1, 1 << 63], &[0; 41_664]);
+    tally.good("16 lone leaves", &collection(4, &vec![vec![255, 3]; 16]), [4, 16, 8], &[0; 4]);
+    tally.good("a fan", &one(3, &[255, 255, 0, 0, 0, 1, 0, 2]), [3, 1, 7], &[0]);
+    tally.good("01|2", &one(3, &[255, 255, 0, 255, 1, 0, 1, 1, 0, 2]), [3, 1, 7], &[1]);
+    tally.good("02|1", &one(3, &[255, 255, 0, 255, 1, 0, 0, 1, 1, 2]), [3, 1, 7], &[2]);
+    tally.good("12|0", &one(3, &[255, 255, 0, 0, 0, 255, 2, 2, 2, 1]), [3, 1, 7], &[4]);
+    tally.good("(((0,1),2),3)", &one(4, &LADDER), [4, 1, 15], &[1, 1, 1, 1]);
+    tally.good("((0,1),(2,3))", &one(4, &[255, 255, 0, 255, 0, 255, 1, 0, 1, 1, 2, 2, 2, 3]), [4, 1, 15], &[1, 1, 4, 4]);
     let close = vec![255, 255, 0, 255, 1, 0, 1, 1, 0, 2];
     let other = vec![255, 255, 0, 255, 1, 0, 1, 2, 0, 1];
     let fan = vec![255, 255, 0, 0, 0, 1, 0, 2];
-    tally.good("01|2, 02|1 and a fan", &collection(3, &[close.clone(), other, fan]), [3, 3], &[3]);
+    tally.good("01|2, 02|1 and a fan", &collection(3, &[close.clone(), other, fan]), [3, 3, 7], &[3]);
     // Document 01's run with n = 6: ((0,1),2) and ((0,1),(3,(4,5))).
     let far = vec![255, 255, 0, 255, 1, 0, 1, 1, 0, 255, 4, 3, 4, 255, 6, 4, 6, 5];
-    tally.good("the run with n = 6", &collection(6, &[close, far]), [6, 2], &SIX_TABLE);
+    tally.good("the run with n = 6", &collection(6, &[close, far]), [6, 2, 63], &SIX_TABLE);
+    // Species that occur nowhere: leaves, fans and trees beside each other.
+    tally.good("the leaf 2 of 4", &one(4, &[255, 2]), [4, 1, 4], &[0; 4]);
+    tally.good("the fan of 1, 3 and 4 of 5", &one(5, &[255, 255, 0, 4, 0, 1, 0, 3]), [5, 1, 26], &[0; 10]);
+    tally.good("the leaves 5 and 0 of 6", &collection(6, &[vec![255, 5], vec![255, 0]]), [6, 2, 33], &[0; 20]);
+    tally.good("(0,2) and the leaf 3 of 4", &collection(4, &[vec![255, 255, 0, 2, 0, 0], vec![255, 3]]), [4, 2, 13], &[0; 4]);
+    let apart = vec![255, 255, 0, 255, 1, 0, 1, 3, 0, 2];
+    tally.good("03|2 of 5, and (0,2)", &collection(5, &[apart, vec![255, 255, 0, 0, 0, 2]]), [5, 2, 13], &[0, 0, 2, 0, 0, 0, 0, 0, 0, 0]);
     tally.end_part("good collections, tables written out");
 }
 
@@ -404,7 +429,7 @@ fn tables_and_long_strings(tally: &mut Tally) {
         tally.call("a table for 64 species", Call::List(&nested, room), MOST_VALUES, &told, None);
     }
     // ((((0,1),2),3)..,63): on every triple a < b < c it holds ab|c.
-    tally.good("length 254, n 64", &nested, [64, 1], &[1; 41_664]);
+    tally.good("length 254, n 64", &nested, [64, 1, usize::MAX], &[1; 41_664]);
     tally.end_part("tables of a wrong length, and the longest body");
 
     let mut long = ladder;
@@ -458,32 +483,32 @@ fn lists_refused(tally: &mut Tally) {
 
 fn lists_entered(tally: &mut Tally) {
     for n in [1, 2] {
-        tally.entered("1 or 2 species, no record", n, &[], &[]);
+        tally.entered("1 or 2 species, no record", n, 0, &[], &[]);
     }
-    tally.entered("3 species, no record", 3, &[], &[0]);
-    tally.entered("4 species, no record", 4, &[], &[0, 0, 0, 0]);
-    tally.entered("64 species, no record", 64, &[], &[0; 41_664]);
+    tally.entered("3 species, no record", 3, 0, &[], &[0]);
+    tally.entered("4 species, no record", 4, 0, &[], &[0, 0, 0, 0]);
+    tally.entered("64 species, no record", 64, 0, &[], &[0; 41_664]);
     for (record, turned, byte) in [([0, 1, 2], [1, 0, 2], 1), ([0, 2, 1], [2, 0, 1], 2), ([1, 2, 0], [2, 1, 0], 4)] {
-        tally.entered("one record", 3, &[record], &[byte]);
-        tally.entered("the close pair in the other order", 3, &[turned], &[byte]);
-        tally.entered("a record twice", 3, &[record, record], &[byte]);
-        tally.entered("a triplet in both orders, and again", 3, &[turned, record, turned], &[byte]);
+        tally.entered("one record", 3, 7, &[record], &[byte]);
+        tally.entered("the close pair in the other order", 3, 7, &[turned], &[byte]);
+        tally.entered("a record twice", 3, 7, &[record, record], &[byte]);
+        tally.entered("a triplet in both orders, and again", 3, 7, &[turned, record, turned], &[byte]);
     }
-    tally.entered("01|2 and 02|1", 3, &[[0, 1, 2], [0, 2, 1]], &[3]);
-    tally.entered("12|0 and 01|2", 3, &[[1, 2, 0], [0, 1, 2]], &[5]);
-    tally.entered("02|1 and 12|0", 3, &[[2, 0, 1], [2, 1, 0]], &[6]);
-    tally.entered("all three of a triple", 3, &[[1, 2, 0], [0, 2, 1], [1, 0, 2]], &[7]);
+    tally.entered("01|2 and 02|1", 3, 7, &[[0, 1, 2], [0, 2, 1]], &[3]);
+    tally.entered("12|0 and 01|2", 3, 7, &[[1, 2, 0], [0, 1, 2]], &[5]);
+    tally.entered("02|1 and 12|0", 3, 7, &[[2, 0, 1], [2, 1, 0]], &[6]);
+    tally.entered("all three of a triple", 3, 7, &[[1, 2, 0], [0, 2, 1], [1, 0, 2]], &[7]);
     // Document 01's runs with n = 4.
-    tally.entered("01|2 and 12|3", 4, &[[0, 1, 2], [1, 2, 3]], &[1, 0, 0, 1]);
-    tally.entered("02|1 and 01|2 of 4", 4, &[[2, 0, 1], [0, 1, 2]], &[3, 0, 0, 0]);
-    tally.entered("12|3, 03|1 and 01|2", 4, &[[2, 1, 3], [3, 0, 1], [1, 0, 2]], &[1, 2, 0, 1]);
-    tally.entered("13|2 and 23|0", 4, &[[1, 3, 2], [2, 3, 0]], &[0, 0, 4, 2]);
-    tally.entered("14|2 and 24|1 of 5", 5, &[[1, 4, 2], [4, 2, 1]], &[0, 0, 0, 0, 0, 0, 6, 0, 0, 0]);
+    tally.entered("01|2 and 12|3", 4, 15, &[[0, 1, 2], [1, 2, 3]], &[1, 0, 0, 1]);
+    tally.entered("02|1 and 01|2 of 4", 4, 7, &[[2, 0, 1], [0, 1, 2]], &[3, 0, 0, 0]);
+    tally.entered("12|3, 03|1 and 01|2", 4, 15, &[[2, 1, 3], [3, 0, 1], [1, 0, 2]], &[1, 2, 0, 1]);
+    tally.entered("13|2 and 23|0", 4, 15, &[[1, 3, 2], [2, 3, 0]], &[0, 0, 4, 2]);
+    tally.entered("14|2 and 24|1 of 5", 5, 22, &[[1, 4, 2], [4, 2, 1]], &[0, 0, 0, 0, 0, 0, 6, 0, 0, 0]);
     let mut table = vec![0; 41_664];
     table[0] = 2;
     table[41_663] = 5;
-    tally.entered("the first and the last triple of 64", 64, &[[63, 62, 61], [2, 0, 1], [61, 62, 63]], &table);
-    tally.entered("70,000 records", 4, &[[1, 0, 3]; 70_000], &[0, 1, 0, 0]);
+    tally.entered("the first and the last triple of 64", 64, (7 << 61) + 7, &[[63, 62, 61], [2, 0, 1], [61, 62, 63]], &table);
+    tally.entered("70,000 records", 4, 11, &[[1, 0, 3]; 70_000], &[0, 1, 0, 0]);
     tally.end_part("lists of records, tables written out");
 }
 
@@ -607,12 +632,12 @@ const BAD_TABLES: [(usize, [usize; 2]); 6] = [(1, [1, 2]), (2, [1, 4]), (3, [0, 
 const BAD_LENGTHS: [usize; 13] = [0, 1, 3, 5, 127, 253, 255, 256, 257, 258, 512, 65_536, 65_538];
 
 fn tables_refused(tally: &mut Tally) {
-    // 43,680 bytes are a table of 65 species. n comes first, then the length, then the bytes, then the room.
+    // 43,680 bytes are a table of 65 species. n comes first, then the length, then the bytes, then the set, what is outside it, and the room.
     for n in BAD_COUNTS {
         for length in [0, 4, 5, 41_664, 43_680] {
             for byte in [0, 1, 255] {
-                for room in [0, 14, 300] {
-                    tally.calls("n 0 or over 64", Call::Build(n, &vec![byte; length], room), 2, &[], None);
+                for (set, room) in [(0, 0), (15, 14), (u64::MAX, 300)] {
+                    tally.calls("n 0 or over 64", Call::Build(n, set, &vec![byte; length], room), 2, &[], None);
                 }
             }
         }
@@ -620,8 +645,8 @@ fn tables_refused(tally: &mut Tally) {
     for (n, lengths) in BAD_TABLES {
         for length in lengths {
             for byte in [0, 3, 255] {
-                for room in [0, 4 * n - 3, 4 * n - 2, 300] {
-                    tally.calls("a table of a wrong length", Call::Build(n, &vec![byte; length], room), 7, &[], None);
+                for (set, room) in [(0, 0), (all(n), 4 * n - 3), (all(n), 4 * n - 2), (1, 300), (u64::MAX, 300)] {
+                    tally.calls("a table of a wrong length", Call::Build(n, set, &vec![byte; length], room), 7, &[], None);
                 }
             }
         }
@@ -629,27 +654,80 @@ fn tables_refused(tally: &mut Tally) {
     let mut last = vec![0; 41_664];
     last[41_663] = 8;
     for (n, table, first) in OVER.into_iter().chain([(64, &last[..], 41_663)]) {
-        for room in [0, 4 * n - 3, 4 * n - 2, 300] {
-            tally.calls("a byte over 7", Call::Build(n, table, room), 8, &[first], None);
+        for (set, room) in [(0, 0), (all(n), 4 * n - 3), (all(n), 4 * n - 2), (1, 300), (u64::MAX, 300)] {
+            tally.calls("a byte over 7", Call::Build(n, set, table, room), 8, &[first], None);
         }
     }
     // Room for the body alone is not enough, and a table that no tree holds is 9 all the same.
-    let rooms: [(usize, &[u8], &[usize]); 8] = [
-        (1, &[], &[0, 1]),
-        (2, &[], &[0, 2, 5]),
-        (3, &[0], &[0, 8, 9]),
-        (3, &[7], &[0, 9]),
-        (4, &[0, 0, 0, 0], &[0, 10, 13]),
-        (4, &[1, 0, 0, 1], &[0, 12, 13]),
-        (4, &[3, 0, 0, 0], &[0, 13]),
-        (64, &[0; 41_664], &[0, 130, 253]),
+    let rooms: [(usize, u64, &[u8], &[usize]); 13] = [
+        (1, 1, &[], &[0, 1]),
+        (2, 3, &[], &[0, 2, 5]),
+        (2, 2, &[], &[0, 1]),
+        (3, 7, &[0], &[0, 8, 9]),
+        (3, 7, &[7], &[0, 9]),
+        (4, 15, &[0, 0, 0, 0], &[0, 10, 13]),
+        (4, 15, &[1, 0, 0, 1], &[0, 12, 13]),
+        (4, 15, &[3, 0, 0, 0], &[0, 13]),
+        (4, 11, &[0, 0, 0, 0], &[0, 8, 9]),
+        (4, 7, &[3, 0, 0, 0], &[0, 9]),
+        (64, u64::MAX, &[0; 41_664], &[0, 130, 253]),
+        (64, 1 << 63, &[0; 41_664], &[0, 1]),
+        (64, u64::MAX >> 1, &[0; 41_664], &[0, 249]),
     ];
-    for (n, table, rooms) in rooms {
+    for (n, set, table, rooms) in rooms {
         for &room in rooms {
-            tally.calls("room too short", Call::Build(n, table, room), 9, &[], None);
+            tally.calls("room too short", Call::Build(n, set, table, room), 9, &[], None);
         }
     }
     tally.end_part("tables to build from, refused");
+}
+
+fn sets_refused(tally: &mut Tally) {
+    // Empty, or with a bit at n or above, whatever the table has and the room.
+    let sets: [(usize, &[u64]); 5] = [
+        (1, &[0, 2, 3, 1 << 32, 1 << 63, u64::MAX]),
+        (3, &[0, 8, 9, 15, (1 << 32) + 7, (1 << 63) + 7, u64::MAX]),
+        (4, &[0, 16, 17, 31, (1 << 32) + 15, (1 << 63) + 15, u64::MAX - 15, u64::MAX]),
+        (63, &[0, 1 << 63, (1 << 63) + 1, u64::MAX]),
+        (64, &[0]),
+    ];
+    for (n, sets) in sets {
+        for &set in sets {
+            for byte in [0, 1, 7] {
+                for room in [0, 4 * n - 2, 300] {
+                    tally.calls("no set of the species", Call::Build(n, set, &vec![byte; fitting(n)], room), 15, &[], None);
+                }
+            }
+        }
+    }
+    // n, a set, a table, and the first triple with a byte and a species outside the set.
+    let mut last = vec![0; 41_664];
+    last[41_663] = 4;
+    let outside: [(usize, u64, &[u8], usize); 16] = [
+        (3, 1, &[1], 0),
+        (3, 6, &[7], 0),
+        (4, 7, &[0, 0, 0, 1], 3),
+        (4, 7, &[1, 1, 0, 1], 1),
+        (4, 7, &[3, 0, 2, 0], 2),
+        (4, 11, &[0, 1, 0, 4], 3),
+        (4, 11, &[2, 1, 1, 4], 0),
+        (4, 13, &[0, 0, 7, 1], 3),
+        (4, 14, &[0, 4, 0, 1], 1),
+        (4, 3, &[0, 0, 1, 0], 2),
+        (4, 8, &[1, 1, 1, 1], 0),
+        (5, 15, &[1, 1, 1, 1, 0, 0, 0, 0, 0, 1], 9),
+        (5, 23, &[1, 0, 0, 0, 1, 1, 1, 0, 2, 0], 8),
+        (64, u64::MAX >> 1, &last, 41_663),
+        (64, u64::MAX - (1 << 61), &last, 41_663),
+        // Of the triples with 40 the first is (0,1,40).
+        (64, u64::MAX - (1 << 40), &[1; 41_664], 9_880),
+    ];
+    for (n, set, table, first) in outside {
+        for room in [0, body_room(set), 300] {
+            tally.calls("a byte outside the set", Call::Build(n, set, table, room), 16, &[first], None);
+        }
+    }
+    tally.end_part("sets to build over, refused");
 }
 
 fn tables_without_a_tree(tally: &mut Tally) {
@@ -679,6 +757,14 @@ fn tables_without_a_tree(tally: &mut Tally) {
     table[0] = 3;
     tally.no_tree("the first and the last triple of 64", 64, &table, 7);
     tally.no_tree("all of 64", 64, &[7; 41_664], usize::MAX);
+    // Over a part of the species: the set that stops is inside it.
+    tally.no_tree_over("01|2 and 02|1, over the three", 4, 7, &[3, 0, 0, 0], 7);
+    tally.no_tree_over("01|3 and 03|1, over the three", 4, 11, &[0, 3, 0, 0], 11);
+    tally.no_tree_over("14|2 and 24|1, and 0 beside them", 5, 23, &[0, 0, 0, 0, 0, 0, 6, 0, 0, 0], 22);
+    let mut table = vec![0; 41_664];
+    table[41_663] = 3;
+    tally.no_tree_over("the last three of 64", 64, 7 << 61, &table, 7 << 61);
+    tally.no_tree_over("the last three of 64, and 5", 64, (7 << 61) + 32, &table, 7 << 61);
     tally.end_part("tables that no tree holds");
 }
 
@@ -712,6 +798,16 @@ fn tables_built(tally: &mut Tally) {
     last.extend((0..61).flat_map(|s| [0, s]));
     last.extend([0, 255, 62, 61, 62, 62, 0, 63]);
     tally.built("the last triple of 64", 64, &table, &last);
+    // Over a part of the species.
+    tally.built_over("1 of 2", 2, 2, &[], &[255, 1]);
+    tally.built_over("2 of 4", 4, 4, &[0; 4], &[255, 2]);
+    tally.built_over("1 and 3 of 4", 4, 10, &[0; 4], &[255, 255, 0, 1, 0, 3]);
+    tally.built_over("0, 1 and 3 of 4, nothing entered", 4, 11, &[0; 4], &[255, 255, 0, 0, 0, 1, 0, 3]);
+    tally.built_over("03|1 of 4", 4, 11, &[0, 2, 0, 0], &[255, 255, 0, 255, 1, 0, 1, 3, 0, 1]);
+    tally.built_over("01|2, over the three", 4, 7, &[1, 0, 0, 0], &[255, 255, 0, 255, 1, 0, 1, 1, 0, 2]);
+    tally.built_over("14|2 of 5, and 0", 5, 23, &[0, 0, 0, 0, 0, 0, 2, 0, 0, 0], &[255, 255, 0, 0, 0, 255, 2, 1, 2, 4, 0, 2]);
+    tally.built_over("the leaf 63 of 64", 64, 1 << 63, &[0; 41_664], &[255, 63]);
+    tally.built_over("the last triple of 64, over the three", 64, 7 << 61, &table, &[255, 255, 0, 255, 1, 61, 1, 62, 0, 63]);
     tally.end_part("tables that a tree holds, bodies written out");
 }
 
@@ -1108,6 +1204,27 @@ fn small_candidates(tally: &mut Tally) {
     tally.end_part("every candidate of up to 4 species and every table, against the second program");
 }
 
+// Every table of up to 4 species and every set of them, with some numbers that are no set, in rooms about the least one.
+fn small_sets(tally: &mut Tally) {
+    let mut answers = Answers::default();
+    for n in 1..=4 {
+        let beyond = [1 << n, all(n) + (1 << n), 1 << 63, (1 << 63) + 1, u64::MAX];
+        for code in 0..1 << (3 * fitting(n)) {
+            let table: Vec<u8> = (0..fitting(n)).map(|i| (code >> (3 * i) & 7) as u8).collect();
+            for set in (0..=all(n)).chain(beyond) {
+                let least = (4 * set.count_ones() as usize).saturating_sub(2);
+                for room in [least.saturating_sub(1), least] {
+                    let (told, body) = plain::build(n, set, &table, room);
+                    answers.count(&told);
+                    tally.call("a small set", Call::Build(n, set, &table, room), tally.cases % (MOST_VALUES + 1), &told, body.as_deref());
+                }
+            }
+        }
+    }
+    answers.show("building");
+    tally.end_part("every table of up to 4 species and every set, against the second program");
+}
+
 // Every candidate of 5 species against every part of its own table. Anything else that is entered fails PC or is not in R, so PI meets no other R.
 fn parts_of_own_tables(tally: &mut Tally) {
     let mut answers = Answers::default();
@@ -1375,47 +1492,69 @@ fn damage_table(n: &mut usize, table: &mut Vec<u8>, dice: &mut Dice) -> &'static
     }
 }
 
+// A set to build over: all n species, those that the table speaks of, some more or fewer, or a number that is no set of the n species.
+fn random_set(n: usize, table: &[u8], dice: &mut Dice) -> u64 {
+    let spoken = triples::triples(n).zip(table).filter(|(_, &byte)| byte != 0);
+    let spoken = spoken.fold(0, |set, ((a, b, c), _)| set | 1 << a | 1 << b | 1 << c);
+    let any = (dice.below(1 << 32) << 32 | dice.below(1 << 32)) as u64;
+    match dice.below(16) {
+        0..=4 => all(n),
+        // where the table says nothing, species 0 alone
+        5..=8 => spoken.max(1),
+        9 | 10 => spoken | any & all(n),
+        11 => spoken & !(1 << dice.below(n)),
+        12 => any & all(n),
+        13 => spoken | 1 << dice.below(64),
+        14 => [0, 1 << 63, u64::MAX, 1 << (n % 64), all(n) | 1 << (n % 64)][dice.below(5)],
+        _ => any,
+    }
+}
+
 fn random_tables(tally: &mut Tally) {
     let mut dice = Dice(SEED);
     let mut answers = Answers::default();
-    let mut below_all = 0;
+    let (mut parts, mut inside) = (0, 0);
     for _ in 0..TABLES {
         let mut n = random_n(&mut dice);
-        let least = 4 * n - 2;
         let (mut table, mut kind) = random_table(n, &mut dice);
+        let set = random_set(n, &table, &mut dice);
         if dice.below(8) == 0 {
             kind = damage_table(&mut n, &mut table, &mut dice);
         }
-        let room = random_body_room(least, &mut dice);
-        let (told, body) = plain::build(n, &table, room);
+        let room = random_body_room(body_room(set.max(1)), &mut dice);
+        let (told, body) = plain::build(n, set, &table, room);
         answers.count(&told);
-        if told.number == 10 && told.values[0].count_ones() < n as u32 {
-            below_all += 1;
+        if told.number == 0 && set != all(n) {
+            parts += 1;
         }
-        tally.call(kind, Call::Build(n, &table, room), dice.below(MOST_VALUES + 1), &told, body.as_deref());
+        if told.number == 10 && told.values[0] as u64 != set {
+            inside += 1;
+        }
+        tally.call(kind, Call::Build(n, set, &table, room), dice.below(MOST_VALUES + 1), &told, body.as_deref());
     }
     answers.show("building");
-    println!("  of 10, sets without some species: {below_all}");
-    tally.end_part(&format!("{TABLES} random tables, seed {SEED}, against the second program"));
+    println!("  of 0, over a part of the species: {parts}; of 10, sets without some of the species: {inside}");
+    tally.end_part(&format!("{TABLES} random tables and sets, seed {SEED}, against the second program"));
 }
 
-// Listing one tree of every species and building gives the tree in house order.
+// Listing one tree and building over the set that occurs gives the tree in house order.
 fn random_trees(tally: &mut Tally) {
     let mut dice = Dice(SEED);
     for _ in 0..TREES {
         let n = random_n(&mut dice);
-        let bytes = random_body(n, true, &mut dice);
-        let room = 4 * n - 2 + dice.below(3);
+        let bytes = random_body(n, false, &mut dice);
+        let set = Tree::from_body(&bytes).species();
+        let room = body_room(set) + dice.below(3);
         let (told, house) = plain::order(n, &bytes, room);
         tally.call("a tree in house order", Call::Order(n, &bytes, room), MOST_VALUES, &told, house.as_deref());
         let one = one(n as u8, &bytes);
         let (list_told, table) = plain::list(&one, fitting(n));
         tally.call("the table of one tree", Call::List(&one, fitting(n)), MOST_VALUES, &list_told, table.as_deref());
         let table = table.unwrap();
-        assert_eq!(plain::build(n, &table, room).1, house, "the second program builds another tree");
-        tally.call("the tree built again", Call::Build(n, &table, room), MOST_VALUES, &told, house.as_deref());
+        assert_eq!(plain::build(n, set, &table, room).1, house, "the second program builds another tree");
+        tally.call("the tree built again", Call::Build(n, set, &table, room), MOST_VALUES, &told, house.as_deref());
     }
-    tally.end_part(&format!("{TREES} random trees of every species, seed {SEED}: listed, put in house order and built again"));
+    tally.end_part(&format!("{TREES} random trees, seed {SEED}: listed, put in house order and built again over the set that occurs"));
 }
 
 // What is written is read as the body in house order, and that is written as the same text.
@@ -1456,7 +1595,7 @@ fn random_candidate(n: usize, dice: &mut Dice) -> (Vec<u8>, Vec<u8>, &'static st
     match dice.below(8) {
         0 => (random_body(n, false, dice), table, "a random candidate"),
         1..=4 if of_trees => (bodies[0].clone(), table, "the listed tree itself"),
-        _ => match plain::build(n, &table, 4 * n - 2).1 {
+        _ => match plain::build(n, all(n), &table, 4 * n - 2).1 {
             Some(built) => (built, table, "the tree built"),
             None => (bodies[0].clone(), table, "a tree, where none is built"),
         },
@@ -1557,8 +1696,10 @@ fn main() {
     bodies_ordered(&mut tally);
     random_bodies(&mut tally);
     tables_refused(&mut tally);
+    sets_refused(&mut tally);
     tables_without_a_tree(&mut tally);
     tables_built(&mut tally);
+    small_sets(&mut tally);
     random_tables(&mut tally);
     random_trees(&mut tally);
     candidates_refused(&mut tally);

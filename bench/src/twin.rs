@@ -22,8 +22,8 @@ struct Broken {
 }
 
 enum Answer {
-    Good { n: usize, trees: usize },
-    Entered(usize),
+    Good { n: usize, trees: usize, set: u64 },
+    Entered { n: usize, set: u64 },
     BadVersion,
     BadCounts,
     EndsEarly(usize),
@@ -40,6 +40,8 @@ enum Answer {
     Unforced(usize),
     BadRecord(usize),
     BadText(usize),
+    BadSet,
+    Outside(usize),
 }
 
 fn bad_count(n: usize) -> bool {
@@ -165,12 +167,24 @@ fn one_tree(b: &[u8], n: usize, k: usize, at: usize) -> Result<usize, Answer> {
     }
 }
 
+// The species under the root of a good body.
+fn tree_set(body: &[u8]) -> u64 {
+    let mut groups = [0; 127];
+    groups_of(body, &mut groups);
+    groups[0]
+}
+
+// The trees, one after the other, with their species, and then what is left over.
 fn all_trees(b: &[u8], n: usize, trees: usize) -> Answer {
     let mut at = 3;
+    let mut set = 0;
     let mut k = 0;
     while k < trees {
         match one_tree(b, n, k, at) {
-            Ok(p) => at = p,
+            Ok(p) => {
+                set |= tree_set(&b[at + 2..p]);
+                at = p;
+            }
             Err(a) => return a,
         }
         k += 1;
@@ -178,7 +192,7 @@ fn all_trees(b: &[u8], n: usize, trees: usize) -> Answer {
     if at < b.len() {
         return Answer::LeftOver(b.len() - at);
     }
-    Answer::Good { n, trees }
+    Answer::Good { n, trees, set }
 }
 
 fn read_answer(b: &[u8]) -> Answer {
@@ -345,6 +359,12 @@ fn table_refusal(n: usize, t: &[u8]) -> Option<Answer> {
     None
 }
 
+// Where a search over the triples ended.
+enum Found {
+    Nowhere,
+    At { a: usize, b: usize, c: usize },
+}
+
 fn clear(t: &mut [u8]) {
     let mut i = 0;
     while i < t.len() {
@@ -395,7 +415,7 @@ fn fill(b: &[u8], n: usize, trees: usize, t: &mut [u8]) {
 
 fn list_answer(b: &[u8], t: &mut [u8]) -> Answer {
     let answer = read_answer(b);
-    if let Answer::Good { n, trees } = answer {
+    if let Answer::Good { n, trees, .. } = answer {
         if t.len() != room(n) {
             return Answer::BadTable;
         }
@@ -442,6 +462,11 @@ fn put_triplet(t: &mut [u8], a: usize, b: usize, c: usize) {
     add_bit(t, low, mid, high, bit);
 }
 
+// A set, and three species with it.
+fn gather(s: u64, a: usize, b: usize, c: usize) -> u64 {
+    s | 1 << a | 1 << b | 1 << c
+}
+
 // The first pass only reads, and the second one fills.
 fn enter_answer(n: usize, records: &[[u8; 3]], t: &mut [u8]) -> Answer {
     let k = first_bad(n, records);
@@ -455,13 +480,15 @@ fn enter_answer(n: usize, records: &[[u8; 3]], t: &mut [u8]) -> Answer {
         return Answer::BadRecord(k);
     }
     clear(t);
+    let mut set = 0;
     let mut i = 0;
     while i < records.len() {
         let [a, b, c] = records[i].map(usize::from);
         put_triplet(t, a, b, c);
+        set = gather(set, a, b, c);
         i += 1;
     }
-    Answer::Entered(n)
+    Answer::Entered { n, set }
 }
 
 // ---- house order
@@ -643,15 +670,50 @@ fn all(n: usize) -> u64 {
     }
 }
 
-fn build_answer(n: usize, t: &[u8], out: &mut [u8]) -> Answer {
+// Is the set empty, or has it a species that is not below n?
+fn bad_set(n: usize, s: u64) -> bool {
+    s == 0 || s & all(n) != s
+}
+
+// Is the byte of the triple a < b < c not 0, and one of the three outside s? The set is asked first.
+fn reaches(t: &[u8], s: u64, a: usize, b: usize, c: usize) -> bool {
+    if has(s, a) & has(s, b) & has(s, c) {
+        return false;
+    }
+    byte(t, a, b, c) != 0
+}
+
+// The first triple in index order that reaches outside s with a byte that is not 0.
+fn first_outside(n: usize, t: &[u8], s: u64) -> Found {
+    let mut found = Found::Nowhere;
+    'search: for c in 0..n {
+        for b in 0..c {
+            for a in 0..b {
+                if reaches(t, s, a, b, c) {
+                    found = Found::At { a, b, c };
+                    break 'search;
+                }
+            }
+        }
+    }
+    found
+}
+
+fn build_answer(n: usize, set: u64, t: &[u8], out: &mut [u8]) -> Answer {
     if let Some(refusal) = table_refusal(n, t) {
         return refusal;
     }
-    if out.len() < body_room(n) {
+    if bad_set(n, set) {
+        return Answer::BadSet;
+    }
+    if let Found::At { a, b, c } = first_outside(n, t, set) {
+        return Answer::Outside(index(a, b, c));
+    }
+    if out.len() < body_room(set.count_ones() as usize) {
         return Answer::ShortRoom;
     }
     let mut draft = [0; 254];
-    match grow(t, all(n), &mut draft, 0, NONE) {
+    match grow(t, set, &mut draft, 0, NONE) {
         Grown::Next(m) => {
             let end = WIDTH * m;
             out[..end].copy_from_slice(&draft[..end]);
@@ -732,12 +794,6 @@ fn beside(masks: &[u64; 4096], g: u64, h: u64) -> bool {
 }
 
 // ---- checking
-
-// Where a search ended.
-enum Found {
-    Nowhere,
-    At { a: usize, b: usize, c: usize },
-}
 
 // Does an entered bit differ from what the tree says?
 fn against(says: Says, v: u8) -> bool {
@@ -1078,12 +1134,12 @@ fn lay(values: &mut [usize], given: &[usize]) {
 
 fn hand_back(answer: Answer, values: &mut [usize]) -> usize {
     match answer {
-        Answer::Good { n, trees } => {
-            lay(values, &[n, trees]);
+        Answer::Good { n, trees, set } => {
+            lay(values, &[n, trees, set as usize]);
             0
         }
-        Answer::Entered(n) => {
-            lay(values, &[n]);
+        Answer::Entered { n, set } => {
+            lay(values, &[n, set as usize]);
             0
         }
         Answer::BadVersion => 1,
@@ -1141,6 +1197,11 @@ fn hand_back(answer: Answer, values: &mut [usize]) -> usize {
             lay(values, &[place]);
             14
         }
+        Answer::BadSet => 15,
+        Answer::Outside(index) => {
+            lay(values, &[index]);
+            16
+        }
     }
 }
 
@@ -1160,8 +1221,8 @@ pub fn order(n: usize, body: &[u8], out: &mut [u8], values: &mut [usize]) -> usi
     hand_back(order_answer(n, body, out), values)
 }
 
-pub fn build(n: usize, t: &[u8], out: &mut [u8], values: &mut [usize]) -> usize {
-    hand_back(build_answer(n, t, out), values)
+pub fn build(n: usize, set: u64, t: &[u8], out: &mut [u8], values: &mut [usize]) -> usize {
+    hand_back(build_answer(n, set, t, out), values)
 }
 
 pub fn check(n: usize, t: &[u8], body: &[u8], values: &mut [usize]) -> usize {

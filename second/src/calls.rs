@@ -2,7 +2,7 @@
 
 use std::fmt::Write;
 
-use crate::operations::{build, check, enter, list, order, parse, read, render, Refusal};
+use crate::operations::{build, check, enter, list, order, parse, read, render, Collection, Refusal};
 use crate::trees::Fault;
 
 /// The longest slice, in bytes, and the longest list of records that a call may hand over.
@@ -15,7 +15,7 @@ pub enum Call {
     List { bytes: Vec<u8>, table: Vec<u8> },
     Enter { n: u64, records: Vec<[u8; 3]>, table: Vec<u8> },
     Order { n: u64, body: Vec<u8>, room: Vec<u8> },
-    Build { n: u64, table: Vec<u8>, room: Vec<u8> },
+    Build { n: u64, set: u64, table: Vec<u8>, room: Vec<u8> },
     Check { n: u64, table: Vec<u8>, body: Vec<u8> },
     Parse { n: u64, text: Vec<u8>, room: Vec<u8> },
     Render { n: u64, body: Vec<u8>, room: Vec<u8> },
@@ -64,8 +64,13 @@ impl Call {
                 }
                 put_slice(out, table);
             }
+            Call::Build { n, set, table, room } => {
+                out.extend(n.to_be_bytes());
+                out.extend(set.to_be_bytes());
+                put_slice(out, table);
+                put_slice(out, room);
+            }
             Call::Order { n, body: one, room: two }
-            | Call::Build { n, table: one, room: two }
             | Call::Check { n, table: one, body: two }
             | Call::Parse { n, text: one, room: two }
             | Call::Render { n, body: one, room: two } => {
@@ -85,27 +90,27 @@ impl Call {
     pub fn answer(&self) -> Answer {
         match self {
             Call::Read { bytes } => {
-                let given = read(bytes).map(|c| vec![c.n, c.trees.len()]);
+                let given = read(bytes).map(collection_values);
                 answer(given, None)
             }
             Call::List { bytes, table } => {
                 let mut table = table.clone();
-                let given = list(bytes, &mut table).map(|(n, count)| vec![n, count]);
+                let given = list(bytes, &mut table).map(collection_values);
                 answer(given, Some(&table))
             }
             Call::Enter { n, records, table } => {
                 let mut table = table.clone();
-                let given = enter(*n, records, &mut table).map(|n| vec![n]);
+                let given = enter(*n, records, &mut table).map(|(n, set)| vec![n as u64, set]);
                 answer(given, Some(&table))
             }
-            Call::Order { n, body, room } => in_room(order, *n, body, room),
-            Call::Build { n, table, room } => in_room(build, *n, table, room),
+            Call::Order { n, body, room } => in_room(room, |room| order(*n, body, room)),
+            Call::Build { n, set, table, room } => in_room(room, |room| build(*n, *set, table, room)),
             Call::Check { n, table, body } => {
                 let given = check(*n, table, body).map(|()| vec![]);
                 answer(given, None)
             }
-            Call::Parse { n, text, room } => in_room(parse, *n, text, room),
-            Call::Render { n, body, room } => in_room(render, *n, body, room),
+            Call::Parse { n, text, room } => in_room(room, |room| parse(*n, text, room)),
+            Call::Render { n, body, room } => in_room(room, |room| render(*n, body, room)),
         }
     }
 
@@ -145,7 +150,10 @@ impl Call {
                 Call::Enter { n, records, table: slice(input)? }
             }
             b'o' => Call::Order { n: number(input, 8)?, body: slice(input)?, room: slice(input)? },
-            b'b' => Call::Build { n: number(input, 8)?, table: slice(input)?, room: slice(input)? },
+            b'b' => {
+                let (n, set) = (number(input, 8)?, number(input, 8)?);
+                Call::Build { n, set, table: slice(input)?, room: slice(input)? }
+            }
             b'c' => Call::Check { n: number(input, 8)?, table: slice(input)?, body: slice(input)? },
             b'n' => Call::Parse { n: number(input, 8)?, text: slice(input)?, room: slice(input)? },
             b'w' => Call::Render { n: number(input, 8)?, body: slice(input)?, room: slice(input)? },
@@ -154,20 +162,25 @@ impl Call {
     }
 }
 
+/// What reading and listing return: n, the tree count and the set that occurs.
+fn collection_values(collection: Collection) -> Vec<u64> {
+    vec![collection.n as u64, collection.trees.len() as u64, collection.species()]
+}
+
 /// The answer of an operation that writes to a lent room, and returns one number.
-fn in_room(operation: fn(u64, &[u8], &mut [u8]) -> Result<usize, Refusal>, n: u64, from: &[u8], room: &[u8]) -> Answer {
+fn in_room(room: &[u8], operation: impl FnOnce(&mut [u8]) -> Result<usize, Refusal>) -> Answer {
     let mut room = room.to_vec();
-    let given = operation(n, from, &mut room).map(|value| vec![value]);
+    let given = operation(&mut room).map(|value| vec![value as u64]);
     answer(given, Some(&room))
 }
 
-fn answer(given: Result<Vec<usize>, Refusal>, lent: Option<&[u8]>) -> Answer {
+fn answer(given: Result<Vec<u64>, Refusal>, lent: Option<&[u8]>) -> Answer {
     let mut fault_word = None;
     let (number, values) = match given {
         Ok(values) => (0, values.iter().map(|v| v.to_string()).collect()),
         Err(refusal) => {
             let values = match refusal {
-                Refusal::Version | Refusal::Size | Refusal::TableLength | Refusal::Room => vec![],
+                Refusal::Version | Refusal::Size | Refusal::TableLength | Refusal::Room | Refusal::Set => vec![],
                 Refusal::Short { tree } | Refusal::BodyLength { tree } => vec![tree.to_string()],
                 Refusal::LeftOver { count } => vec![count.to_string()],
                 Refusal::TreeRule { tree, node, fault } => {
@@ -187,7 +200,7 @@ fn answer(given: Result<Vec<usize>, Refusal>, lent: Option<&[u8]>) -> Answer {
                 Refusal::Contradicted { triple, byte } => {
                     vec![triple.to_string(), byte.to_string()]
                 }
-                Refusal::NotForced { triple } => vec![triple.to_string()],
+                Refusal::NotForced { triple } | Refusal::Outside { triple } => vec![triple.to_string()],
                 Refusal::Record { record } => vec![record.to_string()],
             };
             (refusal.number(), values)

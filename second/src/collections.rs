@@ -1,5 +1,6 @@
 //! Inputs for shelf, each a run of its own.
 
+use crate::exhaustive::{collection, trees};
 use crate::inputs::Inputs;
 use crate::programs::Feed;
 use crate::random::Random;
@@ -32,6 +33,22 @@ pub fn cases(seed: u64) -> Vec<(String, Vec<u8>, Feed, Vec<u8>)> {
     }
     for count in [0, 1, 2, 3, 16] {
         collections.push((format!("64 species, {count} trees"), inputs.good_collection(64, count)));
+    }
+    // no tree, and so no species that occurs; and every tree on any of four species, or of seven numbered 1, 3, 4 and 6
+    for n in [1, 2, 3, 63, 64] {
+        collections.push((format!("{n} species, no tree"), collection(n, &[])));
+    }
+    for (k, tree) in trees(4).iter().enumerate() {
+        let spread = tree.renamed(&|species| [1, 3, 4, 6][species]);
+        collections.push((format!("tree {k} on any of four species"), collection(4, &[&tree.house_order()])));
+        collections.push((format!("tree {k} spread over seven"), collection(7, &[&spread.house_order()])));
+    }
+    // every two trees on any of three species out of five
+    for (k, one) in trees(3).iter().enumerate() {
+        for (m, two) in trees(3).iter().enumerate() {
+            let [one, two] = [one, two].map(|tree| tree.renamed(&|species| species + 1).house_order());
+            collections.push((format!("trees {k} and {m} on any of three species"), collection(5, &[&one, &two])));
+        }
     }
     for k in 0..RANDOM {
         let n = match k % 20 {

@@ -1,7 +1,7 @@
 //! Entered triplets, links, parts and the build (document 01, "Triplets, links, building").
 
 use crate::trees::{tables_of_all_trees, Tree};
-use crate::triples::{all, has, members, one, triples, triplets_on};
+use crate::triples::{all, has, has_three, index, members, one, triples, triplets_on};
 
 /// A set of triplets: for each pair, the species that are third to it.
 #[derive(Clone)]
@@ -91,36 +91,52 @@ impl Entered {
     }
 }
 
-/// Whether some tree with the n species as leaves holds every triplet of the table. Up to five
-/// species all trees are looked at, and the build is held against them; above that it is the build.
-pub fn some_tree_holds(n: usize, table: &[u8]) -> bool {
-    let built = Entered::from_table(n, table).build(all(n));
+/// Whether some tree with exactly the species of the set as leaves holds every triplet of the table, which
+/// says nothing of others. Up to n = 5 all trees are looked at, and the build is held against them; above
+/// that it is the build.
+pub fn some_tree_holds(n: usize, set: u64, table: &[u8]) -> bool {
+    let built = Entered::from_table(n, table).build(set);
     if n > 5 {
         return built.is_ok();
     }
-    let exists = tables_of_all_trees(n).iter().any(|says| holds_all(says, table));
+    let exists = tables_of_all_trees(set).iter().any(|says| holds_all(says, table));
     match built {
         Ok(tree) => {
             assert!(exists, "the build found a tree, and there is none");
             assert!(holds_all(&tree.table_by_definition(n), table), "the built tree lacks a triplet");
-            assert!(tree.species() == all(n) && tree == tree.sorted());
+            assert!(tree.species() == set && tree == tree.sorted());
         }
-        Err(set) => {
+        Err(stop) => {
             assert!(!exists, "the build stopped, and there is a tree");
             // the triplets inside the stopping set alone show it
             let mut inside = table.to_vec();
             for (place, (a, b, c)) in triples(n).enumerate() {
-                if !(has(set, a) && has(set, b) && has(set, c)) {
+                if !has_three(stop, a, b, c) {
                     inside[place] = 0;
                 }
             }
-            assert!(!tables_of_all_trees(n).iter().any(|says| holds_all(says, &inside)));
+            assert!(!tables_of_all_trees(set).iter().any(|says| holds_all(says, &inside)));
         }
     }
     exists
 }
 
-/// Whether what a tree says has every triplet of a table.
+/// Whether what a tree says, of these species or of more, has every triplet of a table.
 fn holds_all(says: &[u8], table: &[u8]) -> bool {
-    says.iter().zip(table).all(|(s, t)| t & !s == 0)
+    table.len() <= says.len() && says.iter().zip(table).all(|(s, t)| t & !s == 0)
+}
+
+/// The build on a set in another way: its species are numbered anew from 0 on, built as all that there
+/// are, and get their numbers back. Up to five of them, all trees are looked at.
+pub fn build_numbered_anew(set: u64, table: &[u8]) -> Result<Tree, u64> {
+    let numbers: Vec<usize> = members(set).collect();
+    let s = numbers.len();
+    let anew: Vec<u8> = triples(s).map(|(a, b, c)| table[index(numbers[a], numbers[b], numbers[c])]).collect();
+    if s <= 5 {
+        some_tree_holds(s, all(s), &anew);
+    }
+    match Entered::from_table(s, &anew).build(all(s)) {
+        Ok(tree) => Ok(tree.renamed(&|i| numbers[i])),
+        Err(stop) => Err(members(stop).fold(0, |stop, i| stop | one(numbers[i]))),
+    }
 }

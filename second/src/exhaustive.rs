@@ -1,11 +1,11 @@
-//! All tables and all candidates up to four species, all short texts, those at the limits, and all rooms for a text.
+//! All tables, sets, candidates and short lists up to four species, all short texts, those at the limits, and all rooms for a text.
 
 use crate::calls::Call;
 use crate::grammar::place;
 use crate::limits::{cases, ladder};
 use crate::newick;
 use crate::trees::{all_trees, subsets, Tree};
-use crate::triples::{all, choose};
+use crate::triples::{all, choose, one};
 use crate::writer;
 
 /// Every table of n species.
@@ -79,7 +79,7 @@ fn small_bodies(most: usize, parents: &[u8], species: &[u8]) -> Vec<Vec<u8>> {
     bodies
 }
 
-fn collection(n: usize, bodies: &[&[u8]]) -> Vec<u8> {
+pub fn collection(n: usize, bodies: &[&[u8]]) -> Vec<u8> {
     let mut bytes = vec![1, n as u8, bodies.len() as u8];
     for body in bodies {
         bytes.extend((body.len() as u16).to_be_bytes());
@@ -88,18 +88,48 @@ fn collection(n: usize, bodies: &[&[u8]]) -> Vec<u8> {
     bytes
 }
 
+/// Every list of up to two records of numbers up to n.
+fn lists(n: usize) -> Vec<Vec<[u8; 3]>> {
+    let n = n as u8;
+    let record = |x| (0..=n).flat_map(move |y| (0..=n).map(move |z| [x, y, z]));
+    let records: Vec<[u8; 3]> = (0..=n).flat_map(record).collect();
+    let ones = records.iter().map(|one| vec![*one]);
+    let twos = records.iter().flat_map(|one| records.iter().map(|two| vec![*one, *two]));
+    std::iter::once(vec![]).chain(ones).chain(twos).collect()
+}
+
+/// Numbers that are no set to build over: the empty one, and some with a bit at n or above.
+fn no_sets(n: usize) -> Vec<u64> {
+    let mut sets = vec![0];
+    if n < 64 {
+        sets.extend([one(n), all(n) | one(n), 1 | one(n), one(63), all(n) | one(63), !all(n), u64::MAX]);
+    }
+    sets
+}
+
+/// A room of exactly 4s - 2 bytes for the s species of a set, one byte less, and more.
+fn rooms_about(set: u64) -> Vec<usize> {
+    let enough = 4 * set.count_ones() as usize - 2;
+    vec![enough, enough - 1, enough + 5]
+}
+
 pub fn exhaustive(push: &mut dyn FnMut(Call) -> bool) {
     for n in 1..=4 {
         let tables = tables(n);
         let trees = trees(n);
         let wide = n as u64;
 
-        // every table into build: with exactly the room, one byte less, and more
-        for table in &tables {
-            for room in [4 * n - 2, 4 * n - 3, 4 * n + 3] {
-                let call = Call::Build { n: wide, table: table.clone(), room: vec![9; room] };
-                if !push(call) {
-                    return;
+        // every table with every set into build: with exactly the room, one byte less, and more; sets that are
+        // none, without room and with enough
+        let good = subsets(all(n)).into_iter().filter(|&set| set != 0).map(|set| (set, rooms_about(set)));
+        let bad = no_sets(n).into_iter().map(|set| (set, vec![0, 4 * n - 2]));
+        for (set, rooms) in good.chain(bad) {
+            for table in &tables {
+                for &room in &rooms {
+                    let call = Call::Build { n: wide, set, table: table.clone(), room: vec![9; room] };
+                    if !push(call) {
+                        return;
+                    }
                 }
             }
         }
@@ -128,6 +158,13 @@ pub fn exhaustive(push: &mut dyn FnMut(Call) -> bool) {
                 if !push(Call::List { bytes, table: vec![9; choose(n, 3)] }) {
                     return;
                 }
+            }
+        }
+
+        // every list of up to two records of numbers up to n into enter
+        for records in lists(n) {
+            if !push(Call::Enter { n: wide, records, table: vec![9; choose(n, 3)] }) {
+                return;
             }
         }
 
@@ -176,6 +213,65 @@ pub fn exhaustive(push: &mut dyn FnMut(Call) -> bool) {
             return;
         }
     }
+}
+
+/// Tables with one byte, or two, and every set of up to six species: which triple is the first outside. Then
+/// large n, and what comes first where there is more than one refusal.
+pub fn sets(push: &mut dyn FnMut(Call) -> bool) -> bool {
+    let mut call = |n: u64, set: u64, table: &[u8], room: usize| {
+        push(Call::Build { n, set, table: table.to_vec(), room: vec![9; room] })
+    };
+    for n in [5, 6] {
+        let length = choose(n, 3);
+        for set in subsets(all(n)) {
+            let enough = 4 * n - 2;
+            for first in 0..length {
+                for second in first..length {
+                    let mut table = vec![0; length];
+                    table[second] = 1 << ((first + second) % 3);
+                    table[first] |= 1 << (first % 3);
+                    let room = if (first + second) % 4 == 0 { 0 } else { enough };
+                    if !call(n as u64, set, &table, room) {
+                        return false;
+                    }
+                }
+            }
+        }
+    }
+
+    // large n: each species left out, alone, and the only one that is left out of what the table has
+    for n in [16, 33, 63, 64] {
+        let (zeros, full) = (vec![0; choose(n, 3)], vec![7; choose(n, 3)]);
+        let mut last = zeros.clone();
+        last[choose(n, 3) - 1] = 1;
+        for species in (0..n).filter(|species| n < 33 || species % 7 < 2 || species + 3 > n) {
+            for set in [one(species), all(n) & !one(species)] {
+                let good = rooms_about(set).into_iter().all(|room| call(n as u64, set, &zeros, room))
+                    && call(n as u64, set, &full, 254)
+                    && call(n as u64, set, &last, 254);
+                if !good {
+                    return false;
+                }
+            }
+        }
+        if !no_sets(n).into_iter().all(|set| call(n as u64, set, &zeros, 254) && call(n as u64, set, &full, 0)) {
+            return false;
+        }
+    }
+
+    // n comes first, then the table's length, its bytes, the set, what is outside it, the room, and the tree
+    for n in SIZES.into_iter().filter(|&n| n < 63 || n > 64).chain([3, 4]) {
+        for set in [0, 1, 2, 3, 7, 15, 8, 16, 1 << 63, u64::MAX] {
+            for table in [&[][..], &[0], &[8], &[3], &[0; 4], &[0, 0, 0, 1], &[7, 0, 0, 9], &[3, 0, 0, 0], &[0; 5]] {
+                for room in [0, 1, 2, 9, 10, 13, 14, 300] {
+                    if !call(n, set, table, room) {
+                        return false;
+                    }
+                }
+            }
+        }
+    }
+    true
 }
 
 /// One sign of each kind that a text tells apart, and some digits.

@@ -6,7 +6,7 @@ use crate::operations::contradiction;
 use crate::random::Random;
 use crate::texts;
 use crate::trees::Tree;
-use crate::triples::{all, choose, members, one};
+use crate::triples::{all, choose, members, one, triples};
 use crate::writer;
 
 /// A check of a candidate with more species than this, past PC, counts as slow: it takes this
@@ -339,7 +339,7 @@ impl Inputs {
             species if species == two => one,
             species => species,
         };
-        trees.push(renamed(&tree, &swapped));
+        trees.push(tree.renamed(&swapped));
         (n, trees.iter().map(|tree| self.body(tree)).collect())
     }
 
@@ -351,16 +351,18 @@ impl Inputs {
         (n as u64, texts::written(&tree, &mut self.random))
     }
 
-    /// Trees of one collection: all of one tree, so that some tree holds them all, or each its own.
+    /// Trees of one collection: all of one tree, so that some tree holds them all, or each its own. In one of
+    /// four collections some species may occur nowhere.
     fn papers(&mut self, n: usize, count: usize) -> Vec<Tree> {
+        let occur = if self.random.chance(1, 4) { self.some_species(n) } else { all(n) };
         if self.random.chance(1, 2) {
-            let whole = self.tree(all(n));
+            let whole = self.tree(occur);
             (0..count).map(|_| self.less(&whole)).collect()
         } else {
             (0..count)
                 .map(|_| {
-                    let set = self.some_species(n);
-                    self.tree(set)
+                    let set = self.some_species(n) & occur;
+                    self.tree(if set == 0 { occur } else { set })
                 })
                 .collect()
         }
@@ -608,11 +610,35 @@ impl Inputs {
         Call::Render { n: self.handed(n), body, room }
     }
 
+    /// A set to build over: the one that occurs, all n, one that has more or fewer species than the table speaks
+    /// of, or a number that is no set of the n species.
+    fn set(&mut self, n: usize, table: &[u8], papers: &[Tree]) -> u64 {
+        let spoken = triples(n).zip(table).filter(|(_, &byte)| byte != 0);
+        let spoken = spoken.fold(0, |set, ((a, b, c), _)| set | one(a) | one(b) | one(c));
+        let occur = papers.iter().fold(spoken, |set, tree| set | tree.species());
+        match self.random.below(32) {
+            0..=8 => occur,
+            9..=16 => all(n),
+            17 | 18 => spoken,
+            19..=21 => occur | self.random.next() & all(n),
+            22..=25 => spoken & !one(self.random.below(n)),
+            26 | 27 => occur & (self.random.next() | self.random.next()),
+            28 => self.random.next() & all(n),
+            29 => one(self.random.below(n)),
+            30 => occur | one(self.random.below(64)),
+            _ => {
+                let any = self.random.next();
+                self.random.pick(&[0, one(63), u64::MAX, one(n % 64), all(n) | one(n % 64), occur | one(n % 64), any])
+            }
+        }
+    }
+
     fn build(&mut self, n: usize) -> Call {
-        let (table, _) = self.table(n);
+        let (table, papers) = self.table(n);
+        let set = self.set(n, &table, &papers);
         let table = self.table_handed(table);
-        let room = self.room(4 * n - 2);
-        Call::Build { n: self.handed(n), table, room }
+        let room = self.room((4 * set.count_ones() as usize).saturating_sub(2));
+        Call::Build { n: self.handed(n), set, table, room }
     }
 
     /// A text of a tree, often of one that breaks a rule or is about as large as a text's may be; and
@@ -694,14 +720,6 @@ impl Inputs {
         }
         let table = self.table_handed(table);
         Call::Check { n: self.handed(n), table, body }
-    }
-}
-
-/// The tree with other species at its leaves.
-fn renamed(tree: &Tree, names: &dyn Fn(usize) -> usize) -> Tree {
-    match tree {
-        Tree::Leaf(species) => Tree::Leaf(names(*species)),
-        Tree::Inner(children) => Tree::Inner(children.iter().map(|child| renamed(child, names)).collect()),
     }
 }
 

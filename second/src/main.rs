@@ -42,7 +42,7 @@ const NUMBERS: [(char, &str, &[u8], &[&str]); 8] = [
     ('l', "list", &[0, 1, 2, 3, 4, 5, 6, 7], &FAULTS),
     ('e', "enter", &[0, 2, 7, 13], &[]),
     ('o', "order", &[0, 2, 5, 6, 9], &FAULTS),
-    ('b', "build", &[0, 2, 7, 8, 9, 10], &[]),
+    ('b', "build", &[0, 2, 7, 8, 9, 10, 15, 16], &[]),
     ('c', "check", &[0, 2, 5, 6, 7, 8, 11, 12], &FAULTS),
     // a text cannot make a bad parent
     ('n', "parse", &[0, 2, 6, 9, 14], &["species", "seen", "only"]),
@@ -163,8 +163,13 @@ fn compare_all(programs: Programs, calls: u64, seed: u64, texts: usize) -> ExitC
     part(&mut comparison, "shelf, one run each", |c| {
         c.runs(Program::Shelf, &collections::cases(seed));
     });
-    part(&mut comparison, "all tables and candidates up to n = 4", |c| {
+    part(&mut comparison, "all tables, sets and candidates up to n = 4", |c| {
         c.calls(exhaustive::exhaustive);
+    });
+    part(&mut comparison, "sets to build over", |c| {
+        c.calls(|push| {
+            exhaustive::sets(push);
+        });
     });
     part(&mut comparison, &format!("all texts of up to {texts} signs"), |c| {
         c.calls(|push| {
@@ -181,7 +186,7 @@ fn compare_all(programs: Programs, calls: u64, seed: u64, texts: usize) -> ExitC
             exhaustive::rooms(push);
         });
     });
-    part(&mut comparison, "texts written and read again", |c| rounds::compare(c, seed));
+    part(&mut comparison, "texts written and read again, trees listed and built again", |c| rounds::compare(c, seed));
     let fixed = std::mem::take(&mut comparison.counts);
     let mut made = (0, 0);
     part(&mut comparison, "random calls", |c| {

@@ -1,5 +1,5 @@
 //! Runs by name, each with its outcome written out by hand: those of document 01, worked examples of
-//! its source papers, and Newick texts, read and written (document 02, T-01 and T-02).
+//! its source papers, Newick texts, read and written (document 02, T-01 and T-02), and sets that occur (T-03).
 
 use crate::calls::Call;
 use crate::compare::{shown, split, Comparison};
@@ -7,6 +7,7 @@ use crate::limits::ladder;
 use crate::newick;
 use crate::programs::{Feed, Program, Run};
 use crate::shelf::shelf;
+use crate::triples::{all, choose};
 
 struct Runs {
     calls: Vec<(String, Call, String)>,
@@ -18,10 +19,15 @@ impl Runs {
         self.calls.push((name.to_string(), call, line.to_string()));
     }
 
-    /// A build in a room of exactly 4n - 2 bytes that hold 9.
+    /// A build over all n species, in a room of exactly 4n - 2 bytes that hold 9.
     fn build(&mut self, name: &str, n: usize, table: &[u8], line: &str) {
-        let room = vec![9; 4 * n - 2];
-        self.call(name, Call::Build { n: n as u64, table: table.to_vec(), room }, line);
+        self.build_over(name, n, all(n), table, 4 * n - 2, line);
+    }
+
+    /// A build over a set, in a room of so many bytes that hold 9.
+    fn build_over(&mut self, name: &str, n: usize, set: u64, table: &[u8], room: usize, line: &str) {
+        let (table, room) = (table.to_vec(), vec![9; room]);
+        self.call(name, Call::Build { n: n as u64, set, table, room }, line);
     }
 
     fn check(&mut self, name: &str, n: usize, table: &[u8], body: &[u8], line: &str) {
@@ -118,7 +124,7 @@ fn document_01(runs: &mut Runs) {
     row(
         runs,
         "n=6, ((0,1),2) and ((0,1),(3,(4,5)))",
-        6,
+        (6, 63),
         &papers,
         &[1, 1, 0, 0, 1, 0, 0, 4, 4, 0, 1, 0, 0, 4, 4, 0, 4, 4, 0, 4],
         Built::Tree(10, "255 255 0 255 1 0 1 1 0 2 0 255 5 3 5 255 7 4 7 5", "12 9"),
@@ -128,26 +134,27 @@ fn document_01(runs: &mut Runs) {
     let star: String = (0..64).map(|i| format!(" 0 {i}")).collect();
     let behind = " 9".repeat(254 - 2 * 65);
     let table = " 0".repeat(41_664);
-    runs.read("64 species, read", &[1, 64, 0], "0 64 0");
+    runs.read("64 species, read", &[1, 64, 0], "0 64 0 0");
     runs.read("65 species, read", &[1, 65, 0], "2");
     let list = |n: u8| Call::List { bytes: vec![1, n, 0], table: vec![9; 41_664] };
-    runs.call("64 species, listed", list(64), &format!("0 64 0 |{table}"));
+    runs.call("64 species, listed", list(64), &format!("0 64 0 0 |{table}"));
     runs.call("65 species, listed", list(65), &format!("2 |{}", " 9".repeat(41_664)));
     let enter = |n: u64| Call::Enter { n, records: vec![[61, 63, 62]], table: vec![9; 41_664] };
     let last = format!("{}2", &table[..table.len() - 1]);
-    runs.call("64 species, entered 61 63|62", enter(64), &format!("0 64 |{last}"));
+    // 7 at 61
+    runs.call("64 species, entered 61 63|62", enter(64), &format!("0 64 16140901064495857664 |{last}"));
     runs.call("65 species, entered", enter(65), &format!("2 |{}", " 9".repeat(41_664)));
     let order = |n: u64| Call::Order { n, body: vec![255, 63], room: vec![9; 2] };
     runs.call("64 species, into house order", order(64), "0 1 | 255 63");
     runs.call("65 species, into house order", order(65), "2 | 9 9");
-    let build = |n: u64| Call::Build { n, table: zeros.clone(), room: vec![9; 254] };
+    let build = |n: u64| Call::Build { n, set: u64::MAX, table: zeros.clone(), room: vec![9; 254] };
     runs.call("64 species, built", build(64), &format!("0 65 | 255 255{star}{behind}"));
     runs.call("65 species, built", build(65), &format!("2 |{}", " 9".repeat(254)));
     runs.check("64 species, checked", 64, &zeros, &[255, 63], "0");
     runs.check("65 species, checked", 65, &zeros, &[255, 63], "2");
 
     // 16 trees and 17
-    for (count, line, listed) in [(16, "0 3 16", "0 3 16 | 0"), (17, "2", "2 | 9")] {
+    for (count, line, listed) in [(16, "0 3 16 4", "0 3 16 4 | 0"), (17, "2", "2 | 9")] {
         let mut bytes = vec![1, 3, count];
         for _ in 0..count {
             bytes.extend([0, 2, 255, 2]);
@@ -158,7 +165,7 @@ fn document_01(runs: &mut Runs) {
     }
 
     // room of 14 bytes for n=4, and of 13
-    let build = |room: usize| Call::Build { n: 4, table: vec![0; 4], room: vec![9; room] };
+    let build = |room: usize| Call::Build { n: 4, set: 15, table: vec![0; 4], room: vec![9; room] };
     runs.call("n=4, build room of 14 bytes", build(14), "0 5 | 255 255 0 0 0 1 0 2 0 3 9 9 9 9");
     runs.call("n=4, build room of 13 bytes", build(13), "9 | 9 9 9 9 9 9 9 9 9 9 9 9 9");
 
@@ -175,8 +182,6 @@ fn document_01(runs: &mut Runs) {
     runs.shelf("version 2", &[2, 4, 0], "read 1 0 0\n");
     runs.shelf("65 species", &[1, 65, 0], "read 2 0 0\n");
     runs.shelf("17 trees", &[1, 4, 17], "read 2 0 0\n");
-    runs.shelf("no trees, n=1", &[1, 1, 0], "build 0 1\n255 0\ncheck 0\n");
-    runs.shelf("no trees, n=2", &[1, 2, 0], "build 0 3\n255 255 0 0 0 1\ncheck 0\n");
     let leaf = [0, 2, 255, 0];
     let second = |more: &[u8]| [&[1, 4, 2], &leaf[..], more].concat();
     runs.shelf("second tree's length cut", &second(&[0]), "read 3 1 0\n");
@@ -193,25 +198,26 @@ enum Built {
     Stops(u64),
 }
 
-/// One collection: listed, built, its built tree checked, and all of it by shelf.
-fn row(runs: &mut Runs, name: &str, n: usize, papers: &[&str], table: &[u8], built: Built) {
+/// One collection, with n and the set that occurs: listed, built over that set, its built tree checked, and all of it by shelf.
+fn row(runs: &mut Runs, name: &str, (n, set): (usize, u64), papers: &[&str], table: &[u8], built: Built) {
     let bytes = collection(n, papers);
     let listed: String = table.iter().map(|byte| format!(" {byte}")).collect();
     let call = Call::List { bytes: bytes.clone(), table: vec![9; table.len()] };
-    runs.call(&format!("{name}: list"), call, &format!("0 {n} {} |{listed}", papers.len()));
+    runs.call(&format!("{name}: list"), call, &format!("0 {n} {} {set} |{listed}", papers.len()));
     let build = format!("{name}: build");
+    let room = 4 * set.count_ones() as usize - 2;
     match built {
         Built::Tree(nodes, body, checked) => {
-            let behind = " 9".repeat(4 * n - 2 - 2 * nodes);
-            runs.build(&build, n, table, &format!("0 {nodes} | {body}{behind}"));
+            let behind = " 9".repeat(room - 2 * nodes);
+            runs.build_over(&build, n, set, table, room, &format!("0 {nodes} | {body}{behind}"));
             let body_bytes: Vec<u8> = body.split(' ').map(|number| number.parse().expect("a byte")).collect();
             runs.check(&format!("{name}: check"), n, table, &body_bytes, checked);
             runs.shelf(name, &bytes, &format!("build 0 {nodes}\n{body}\ncheck {checked}\n"));
         }
-        Built::Stops(set) => {
-            let untouched = " 9".repeat(4 * n - 2);
-            runs.build(&build, n, table, &format!("10 {set} |{untouched}"));
-            runs.shelf(name, &bytes, &format!("build 10 {set}\n"));
+        Built::Stops(stop) => {
+            let untouched = " 9".repeat(room);
+            runs.build_over(&build, n, set, table, room, &format!("10 {stop} |{untouched}"));
+            runs.shelf(name, &bytes, &format!("build 10 {stop}\n"));
         }
     }
 }
@@ -221,7 +227,7 @@ fn papers(runs: &mut Runs) {
     row(
         runs,
         "papers 1, ((A,B),C) and ((B,C),D)",
-        4,
+        (4, 15),
         &["((0,1),2)", "((1,2),3)"],
         &[1, 0, 0, 1],
         Built::Tree(7, "255 255 0 255 1 255 2 0 2 1 1 2 0 3", "0"),
@@ -230,7 +236,7 @@ fn papers(runs: &mut Runs) {
     row(
         runs,
         "papers 2, ((A,B),E) and ((C,D),E)",
-        5,
+        (5, 31),
         &["((0,1),4)", "((2,3),4)"],
         &[0, 0, 0, 0, 1, 0, 0, 0, 0, 1],
         Built::Tree(8, "255 255 0 255 1 0 1 1 0 255 4 2 4 3 0 4", "12 0"),
@@ -240,7 +246,7 @@ fn papers(runs: &mut Runs) {
     row(
         runs,
         "papers 3, ((A,B),D) and ((A,C),D)",
-        4,
+        (4, 15),
         &["((0,1),3)", "((0,2),3)"],
         &table,
         Built::Tree(6, "255 255 0 255 1 0 1 1 1 2 0 3", "0"),
@@ -253,7 +259,7 @@ fn papers(runs: &mut Runs) {
     row(
         runs,
         "papers 4, (((A,C),B),(E,F)) and (((A,D),B),C)",
-        6,
+        (6, 63),
         &["(((0,2),1),(4,5))", "(((0,3),1),2)"],
         &table,
         Built::Stops(15),
@@ -268,7 +274,7 @@ fn papers(runs: &mut Runs) {
     row(
         runs,
         "papers 5, (((A,E),B),C) and (((A,B),C),E)",
-        4,
+        (4, 15),
         &["(((0,3),1),2)", "(((0,1),2),3)"],
         &table,
         Built::Stops(15),
@@ -276,14 +282,14 @@ fn papers(runs: &mut Runs) {
     runs.check("papers 5: check ((0,1),2)", 4, &table, &CHERRY, "0");
 
     let table = [5, 1, 0, 0];
-    row(runs, "papers 6, ((A,B),C,X) and ((B,C),A)", 4, &["((0,1),2,3)", "((1,2),0)"], &table, Built::Stops(7));
+    row(runs, "papers 6, ((A,B),C,X) and ((B,C),A)", (4, 15), &["((0,1),2,3)", "((1,2),0)"], &table, Built::Stops(7));
     runs.check("papers 6: check ((0,1,2),3)", 4, &table, &body("((0,1,2),3)"), "12 2");
 
     let table = [1, 3, 6, 6, 3, 6, 6, 3, 3, 3, 5, 6, 6, 3, 3, 3, 5, 6, 6, 4];
     row(
         runs,
         "papers 7, (((A,D),B),((C,F),E)) and (((A,E),(B,F)),(C,D))",
-        6,
+        (6, 63),
         &["(((0,3),1),((2,5),4))", "(((0,4),(1,5)),(2,3))"],
         &table,
         Built::Stops(63),
@@ -293,10 +299,141 @@ fn papers(runs: &mut Runs) {
     row(
         runs,
         "papers 8, ((A,B),W) and ((A,B),(X,(Y,Z)))",
-        6,
+        (6, 63),
         &["((0,1),2)", "((0,1),(3,(4,5)))"],
         &[1, 1, 0, 0, 1, 0, 0, 4, 4, 0, 1, 0, 0, 4, 4, 0, 4, 4, 0, 4],
         Built::Tree(10, "255 255 0 255 1 0 1 1 0 2 0 255 5 3 5 255 7 4 7 5", "12 9"),
+    );
+}
+
+/// The set that occurs, as it is returned.
+fn sets_returned(runs: &mut Runs) {
+    let star: Vec<String> = (0..64).map(|species| species.to_string()).collect();
+    let star = format!("({})", star.join(","));
+    let papers: [(usize, &[&str], u64); 9] = [
+        (4, &[], 0),
+        (1, &["0"], 1),
+        (4, &["3"], 8),
+        (64, &["63"], 1 << 63),
+        (64, &[&star], u64::MAX),
+        // a fan says nothing, and has its species all the same
+        (5, &["(1,3,4)"], 26),
+        (5, &["((4,1),3)", "(3,1)", "4"], 26),
+        (6, &["(0,2)", "5"], 37),
+        (6, &["((0,1),2)", "((2,4),1)"], 23),
+    ];
+    for (n, papers, set) in papers {
+        let told = format!("0 {n} {} {set}", papers.len());
+        let name = format!("n={n}, {}", short(&papers.join(" and ")));
+        runs.read(&format!("{name}: read"), &collection(n, papers), &told);
+        if papers.iter().all(|paper| !paper.contains("((")) && n < 8 {
+            let table = vec![9; choose(n, 3)];
+            let zeros = " 0".repeat(table.len());
+            let call = Call::List { bytes: collection(n, papers), table };
+            runs.call(&format!("{name}: list"), call, &format!("{told} |{zeros}"));
+        }
+    }
+    let enter = |records: &[[u8; 3]]| Call::Enter { n: 5, records: records.to_vec(), table: vec![9; 10] };
+    runs.call("n=5, no record entered", enter(&[]), "0 5 0 | 0 0 0 0 0 0 0 0 0 0");
+    runs.call("n=5, 41|2 entered, and 14|2", enter(&[[4, 1, 2], [1, 4, 2]]), "0 5 22 | 0 0 0 0 0 0 2 0 0 0");
+    runs.call("n=5, 01|2 and 03|2 entered", enter(&[[0, 1, 2], [3, 0, 2]]), "0 5 15 | 1 0 2 0 0 0 0 0 0 0");
+    runs.call("n=5, 01|2 and 01|5 entered", enter(&[[0, 1, 2], [0, 1, 5]]), "13 1 | 9 9 9 9 9 9 9 9 9 9");
+}
+
+/// The build over a set, and its refusals in their order.
+fn sets_built(runs: &mut Runs) {
+    let mut build = |n: usize, set: u64, table: &[u8], room: usize, told: &str| {
+        let shown = if table.len() <= 10 { format!("{table:?}") } else { format!("of {} bytes", table.len()) };
+        let name = format!("n={n}, set {set}, table {shown}, room of {room} bytes");
+        // where nothing is written, the room is as it was
+        let line = if told.contains('|') { told.to_string() } else { format!("{told} |{}", " 9".repeat(room)) };
+        runs.build_over(&name, n, set, table, room, &line);
+    };
+    build(4, 15, &[0, 0, 0, 0], 14, "0 5 | 255 255 0 0 0 1 0 2 0 3 9 9 9 9");
+    build(4, 11, &[0, 0, 0, 0], 10, "0 4 | 255 255 0 0 0 1 0 3 9 9");
+    build(4, 11, &[0, 1, 0, 0], 10, "0 5 | 255 255 0 255 1 0 1 1 0 3");
+    build(4, 11, &[0, 2, 0, 0], 12, "0 5 | 255 255 0 255 1 0 1 3 0 1 9 9");
+    build(4, 14, &[0, 0, 0, 4], 10, "0 5 | 255 255 0 1 0 255 2 2 2 3");
+    build(4, 10, &[0, 0, 0, 0], 6, "0 3 | 255 255 0 1 0 3");
+    build(4, 8, &[0, 0, 0, 0], 2, "0 1 | 255 3");
+    build(2, 2, &[], 3, "0 1 | 255 1 9");
+    build(1, 1, &[], 2, "0 1 | 255 0");
+    // 2, 7 and 8 come first
+    build(0, 1, &[], 2, "2");
+    build(65, 1, &[0; 10], 2, "2");
+    build(4, 0, &[0, 0, 0], 0, "7");
+    build(4, 0, &[0, 9, 0, 8], 0, "8 1");
+    build(4, 7, &[0, 0, 0, 8], 0, "8 3");
+    // an empty set, or a bit at n or above
+    for set in [0, 16, 31, 17, 1 << 63, (1 << 63) | 15, 1 << 32, u64::MAX] {
+        build(4, set, &[0, 0, 0, 0], 300, "15");
+        build(4, set, &[1, 0, 0, 0], 0, "15");
+    }
+    build(1, 2, &[], 2, "15");
+    build(1, 3, &[], 6, "15");
+    // a byte outside the set: the first one, and before the room
+    build(4, 7, &[1, 0, 0, 0], 10, "0 5 | 255 255 0 255 1 0 1 1 0 2");
+    build(4, 7, &[1, 0, 0, 1], 10, "16 3");
+    build(4, 7, &[7, 1, 0, 1], 10, "16 1");
+    build(4, 7, &[0, 0, 4, 0], 0, "16 2");
+    build(4, 14, &[2, 0, 0, 1], 10, "16 0");
+    build(4, 13, &[0, 0, 3, 7], 9, "16 3");
+    build(4, 3, &[0, 7, 0, 0], 6, "16 1");
+    build(3, 1, &[5], 2, "16 0");
+    // the room for the species of the set, whatever the body has; then the tree
+    build(4, 11, &[0, 0, 0, 0], 9, "9");
+    build(4, 11, &[0, 3, 0, 0], 9, "9");
+    build(4, 11, &[0, 3, 0, 0], 10, "10 11");
+    build(4, 8, &[0, 0, 0, 0], 1, "9");
+    build(5, 22, &[0, 0, 0, 0, 0, 0, 3, 0, 0, 0], 10, "10 22");
+    build(5, 23, &[0, 0, 0, 0, 0, 0, 3, 0, 0, 0], 14, "10 22");
+    // 64 species: no bit is above them
+    let zeros = vec![0; 41_664];
+    let star: String = (0..64).map(|i| format!(" 0 {i}")).collect();
+    build(64, u64::MAX, &zeros, 254, &format!("0 65 | 255 255{star}{}", " 9".repeat(254 - 2 * 65)));
+    build(64, u64::MAX, &zeros, 253, "9");
+    build(64, 1 << 63, &zeros, 2, "0 1 | 255 63");
+    build(64, 3 << 62, &zeros, 6, "0 3 | 255 255 0 62 0 63");
+    build(64, 3 << 62, &zeros, 5, "9");
+    build(64, 0, &zeros, 254, "15");
+    build(63, 1 << 63, &zeros[..39_711], 254, "15");
+    build(63, u64::MAX, &zeros[..39_711], 254, "15");
+    build(63, 1 << 62, &zeros[..39_711], 2, "0 1 | 255 62");
+    let mut last = zeros;
+    last[41_663] = 1;
+    build(64, 7 << 61, &last, 10, "0 5 | 255 255 0 255 1 61 1 62 0 63");
+    build(64, u64::MAX >> 1, &last, 254, "16 41663");
+    last[41_663] = 5;
+    build(64, 7 << 61, &last, 10, "10 16140901064495857664");
+}
+
+/// Collections with species that occur nowhere.
+fn sets_on_the_shelf(runs: &mut Runs) {
+    for n in [1, 2, 3, 4, 64] {
+        runs.shelf(&format!("no trees, n={n}"), &[1, n, 0], "build 15\n");
+    }
+    let mut shelf = |n: usize, papers: &[&str], output: &str| {
+        runs.shelf(&format!("n={n}, {}", papers.join(" and ")), &collection(n, papers), output);
+    };
+    shelf(1, &["0"], "build 0 1\n255 0\ncheck 0\n");
+    shelf(2, &["1"], "build 0 1\n255 1\ncheck 0\n");
+    shelf(64, &["63"], "build 0 1\n255 63\ncheck 0\n");
+    shelf(6, &["(1,3,5)"], "build 0 4\n255 255 0 1 0 3 0 5\ncheck 0\n");
+    shelf(6, &["4", "2"], "build 0 3\n255 255 0 2 0 4\ncheck 0\n");
+    shelf(6, &["((0,1),2)"], "build 0 5\n255 255 0 255 1 0 1 1 0 2\ncheck 0\n");
+    shelf(6, &["((0,1),2)", "5"], "build 0 6\n255 255 0 255 1 0 1 1 0 2 0 5\ncheck 12 10\n");
+    shelf(6, &["((1,3),5)", "((1,5),3)"], "build 10 42\n");
+
+    // papers 2 once more, the letters from 1 on: the same tree and the same triple
+    let mut table = [0; 35];
+    (table[12], table[19]) = (1, 1);
+    row(
+        runs,
+        "((1,2),5) and ((3,4),5) of 7",
+        (7, 62),
+        &["((1,2),5)", "((3,4),5)"],
+        &table,
+        Built::Tree(8, "255 255 0 255 1 1 1 2 0 255 4 3 4 4 0 5", "12 3"),
     );
 }
 
@@ -484,6 +621,9 @@ fn all_runs() -> Runs {
     let mut runs = Runs { calls: Vec::new(), shelf: Vec::new() };
     document_01(&mut runs);
     papers(&mut runs);
+    sets_returned(&mut runs);
+    sets_built(&mut runs);
+    sets_on_the_shelf(&mut runs);
     texts_read(&mut runs);
     texts_refused(&mut runs);
     texts_written(&mut runs);

@@ -1,10 +1,10 @@
-//! The eight operations (document 01, "Numbers handed back", and document 02, T-01 and T-02).
+//! The eight operations (document 01, "Numbers handed back", and document 02, T-01 to T-03).
 
-use crate::entered::{some_tree_holds, Entered};
+use crate::entered::{build_numbered_anew, some_tree_holds, Entered};
 use crate::grammar::{self, LONGEST_SEARCHED};
 use crate::newick;
 use crate::trees::{broken_rule, Fault, Tree};
-use crate::triples::{all, choose, has, index, triples, triplets_on};
+use crate::triples::{all, choose, has, has_three, index, one, triples, triplets_on};
 use crate::writer;
 
 #[derive(Clone, Debug, PartialEq, Eq)]
@@ -23,6 +23,8 @@ pub enum Refusal {
     NotForced { triple: usize },
     Record { record: usize },
     Text { place: usize },
+    Set,
+    Outside { triple: usize },
 }
 
 impl Refusal {
@@ -42,6 +44,8 @@ impl Refusal {
             Refusal::NotForced { .. } => 12,
             Refusal::Record { .. } => 13,
             Refusal::Text { .. } => 14,
+            Refusal::Set => 15,
+            Refusal::Outside { .. } => 16,
         }
     }
 }
@@ -49,6 +53,13 @@ impl Refusal {
 pub struct Collection {
     pub n: usize,
     pub trees: Vec<Tree>,
+}
+
+impl Collection {
+    /// The set that occurs: the species of all the trees.
+    pub fn species(&self) -> u64 {
+        self.trees.iter().fold(0, |set, tree| set | tree.species())
+    }
 }
 
 fn size(n: u64) -> Result<usize, Refusal> {
@@ -126,8 +137,8 @@ pub fn read(bytes: &[u8]) -> Result<Collection, Refusal> {
     Ok(Collection { n, trees })
 }
 
-/// Lists a collection's triplets into the lent table. Returns n and the tree count.
-pub fn list(bytes: &[u8], table: &mut [u8]) -> Result<(usize, usize), Refusal> {
+/// Lists a collection's triplets into the lent table. Returns the collection.
+pub fn list(bytes: &[u8], table: &mut [u8]) -> Result<Collection, Refusal> {
     let collection = read(bytes)?;
     table_length(collection.n, table)?;
     table.fill(0);
@@ -136,11 +147,11 @@ pub fn list(bytes: &[u8], table: &mut [u8]) -> Result<(usize, usize), Refusal> {
             *byte |= says;
         }
     }
-    Ok((collection.n, collection.trees.len()))
+    Ok(collection)
 }
 
-/// Enters a list of triplets into the lent table. Returns n.
-pub fn enter(n: u64, records: &[[u8; 3]], table: &mut [u8]) -> Result<usize, Refusal> {
+/// Enters a list of triplets into the lent table. Returns n and the set that occurs.
+pub fn enter(n: u64, records: &[[u8; 3]], table: &mut [u8]) -> Result<(usize, u64), Refusal> {
     let n = size(n)?;
     table_length(n, table)?;
     for (record, &[x, y, z]) in records.iter().enumerate() {
@@ -161,7 +172,8 @@ pub fn enter(n: u64, records: &[[u8; 3]], table: &mut [u8]) -> Result<usize, Ref
             }
         }
     }
-    Ok(n)
+    let set = records.iter().flatten().fold(0, |set, &species| set | one(species as usize));
+    Ok((n, set))
 }
 
 /// Puts a body into house order, in the lent room. Returns the node count.
@@ -185,18 +197,33 @@ fn put(bytes: &[u8], room: &mut [u8]) -> Result<usize, Refusal> {
     Ok(bytes.len())
 }
 
-/// Builds the tree of a table in the lent room. Returns the node count.
-pub fn build(n: u64, table: &[u8], room: &mut [u8]) -> Result<usize, Refusal> {
+/// The first triple with a byte that is not 0 and a species outside the set.
+fn outside(n: usize, set: u64, table: &[u8]) -> Option<usize> {
+    triples(n).zip(table).position(|((a, b, c), &byte)| byte != 0 && !has_three(set, a, b, c))
+}
+
+/// Builds the tree of a table over the species of a set, in the lent room. Returns the node count.
+pub fn build(n: u64, set: u64, table: &[u8], room: &mut [u8]) -> Result<usize, Refusal> {
     let n = size(n)?;
     table_length(n, table)?;
     table_bytes(table)?;
-    if room.len() < 4 * n - 2 {
+    if set == 0 || set & !all(n) != 0 {
+        return Err(Refusal::Set);
+    }
+    if let Some(triple) = outside(n, set, table) {
+        return Err(Refusal::Outside { triple });
+    }
+    if room.len() < 4 * set.count_ones() as usize - 2 {
         return Err(Refusal::Room);
     }
     if n <= 5 {
-        some_tree_holds(n, table); // holds the build against all trees
+        some_tree_holds(n, set, table); // holds the build against all trees
     }
-    match Entered::from_table(n, table).build(all(n)) {
+    let built = Entered::from_table(n, table).build(set);
+    if set != all(n) {
+        assert_eq!(built, build_numbered_anew(set, table), "the build, with the species as they are and numbered anew");
+    }
+    match built {
         Err(set) => Err(Refusal::NoTree { set }),
         Ok(tree) => put_body(&tree.preorder(), room),
     }
@@ -247,7 +274,7 @@ pub fn check(n: u64, table: &[u8], body: &[u8]) -> Result<(), Refusal> {
 
     // PC: the candidate's triplets and R together can be held by one tree
     let both: Vec<u8> = own.iter().zip(&r).map(|(x, y)| x | y).collect();
-    let pc = some_tree_holds(n, &both);
+    let pc = some_tree_holds(n, all(n), &both);
     let contradicted = contradiction(&own, table);
     assert_eq!(pc, contradicted.is_none(), "PC, over trees and bit by bit");
     if let Some(triple) = contradicted {
@@ -272,7 +299,7 @@ pub fn check(n: u64, table: &[u8], body: &[u8]) -> Result<(), Refusal> {
             if n <= 16 {
                 let before = r[triple];
                 r[triple] |= bit;
-                let none = !some_tree_holds(n, &r);
+                let none = !some_tree_holds(n, all(n), &r);
                 r[triple] = before;
                 assert_eq!(none, by_chain, "PI, by trees or builds and by the chain");
             }

@@ -1,37 +1,42 @@
 //! What trial wrote is handed to it again: text that it wrote is read, and bodies that it read are written. And of all
-//! the bodies that it wrote, two have equal text exactly when they have the same groups (document 02, T-02).
+//! the bodies that it wrote, two have equal text exactly when they have the same groups (document 02, T-02). What it
+//! listed of one tree is built over the set that it returned (T-03).
 
 use std::collections::BTreeMap;
 
 use crate::calls::Call;
 use crate::compare::Comparison;
-use crate::exhaustive::{bodies, trees};
+use crate::exhaustive::{bodies, collection, trees};
 use crate::inputs::Inputs;
 use crate::programs::{Program, Run};
 use crate::trees::Tree;
+use crate::triples::choose;
 use crate::writer;
 
 /// How many random trees are written, each with others that are much like it; and how many random texts are read.
 const FAMILIES: usize = 3_000;
 const TEXTS: usize = 10_000;
 
+/// Tables of more than 16 species are long: of the trees with more, one in so many is listed and built.
+const LARGE_IN: usize = 50;
+
 /// n and bytes: a body or a text.
 type Handed = (u64, Vec<u8>);
 
-/// The first value of a line of 0, and what was lent.
-fn done(line: &str) -> Option<(usize, Vec<u8>)> {
+/// The values of a line of 0, and what was lent.
+fn done(line: &str) -> Option<(Vec<u64>, Vec<u8>)> {
     let (told, lent) = line.trim_end().split_once(" |")?;
-    let value = told.strip_prefix("0 ")?.parse().ok()?;
+    let values = told.strip_prefix("0 ")?.split(' ').map(|value| value.parse().ok()).collect::<Option<_>>()?;
     let lent = lent.split_whitespace().map(|byte| byte.parse().ok()).collect::<Option<_>>()?;
-    Some((value, lent))
+    Some((values, lent))
 }
 
 /// What trial writes to the front of the room for each of the calls, of which all have to give 0.
 fn written(comparison: &mut Comparison, calls: &[Call], bytes_each: usize) -> Option<Vec<Vec<u8>>> {
     let lines = comparison.lines(calls);
     let fronts = lines.iter().map(|line| {
-        let (value, mut lent) = done(line.as_ref()?)?;
-        lent.truncate(bytes_each * value);
+        let (values, mut lent) = done(line.as_ref()?)?;
+        lent.truncate(bytes_each * values[0] as usize);
         Some(lent)
     });
     fronts.collect()
@@ -62,17 +67,17 @@ fn with(from: &[Handed], bytes: &[Vec<u8>]) -> Vec<Handed> {
     from.iter().zip(bytes).map(|((n, _), bytes)| (*n, bytes.clone())).collect()
 }
 
-/// Says where two lists differ that have to be alike.
-fn alike(comparison: &mut Comparison, note: &str, from: &[Handed], one: &[Vec<u8>], two: &[Vec<u8>]) {
-    for k in 0..from.len() {
+/// Says where what two lists have is not alike, though it has to be; a call that belongs to each is kept.
+fn alike(comparison: &mut Comparison, note: &str, call: impl Fn(usize) -> Call, one: &[Vec<u8>], two: &[Vec<u8>]) {
+    for k in 0..one.len() {
         if one[k] != two[k] && !comparison.enough() {
-            differs(comparison, note, &[&from[k]], &one[k], &two[k]);
+            differs(comparison, note, &[call(k)], &one[k], &two[k]);
         }
     }
 }
 
-fn differs(comparison: &mut Comparison, note: &str, from: &[&Handed], wrote: &[u8], says: &[u8]) {
-    let input: Vec<u8> = from.iter().flat_map(|body| render(body).bytes()).collect();
+fn differs(comparison: &mut Comparison, note: &str, calls: &[Call], wrote: &[u8], says: &[u8]) {
+    let input: Vec<u8> = calls.iter().flat_map(Call::bytes).collect();
     let run = Run { wrote: wrote.to_vec(), trouble: None };
     comparison.differs(Program::Trial, note, &input, &run, says);
 }
@@ -91,6 +96,30 @@ fn all_bodies(comparison: &mut Comparison, inputs: &mut Inputs) -> Option<Vec<Ha
     Some(all)
 }
 
+/// Each tree is listed alone, and built from its table over the set that occurs: this gives it in house order.
+fn built_again(comparison: &mut Comparison, bodies: &[Handed], house: &[Vec<u8>]) -> Option<()> {
+    let some: Vec<usize> = (0..bodies.len()).filter(|&k| bodies[k].0 <= 16 || k % LARGE_IN == 0).collect();
+    let list = |&k: &usize| {
+        let (n, body) = &bodies[k];
+        let n = *n as usize;
+        Call::List { bytes: collection(n, &[body]), table: vec![9; choose(n, 3)] }
+    };
+    let listed = comparison.lines(&some.iter().map(list).collect::<Vec<_>>());
+    let mut builds = Vec::new();
+    for (k, line) in some.iter().zip(&listed) {
+        let (values, table) = done(line.as_ref()?)?;
+        let set = *values.get(2)?;
+        let room = vec![9; (4 * set.count_ones() as usize).saturating_sub(2)];
+        builds.push(Call::Build { n: bodies[*k].0, set, table, room });
+    }
+    let built = written(comparison, &builds, 2)?;
+    let house: Vec<Vec<u8>> = some.iter().map(|&k| house[k].clone()).collect();
+    let note = "the tree that was listed is not the one that is built over the set that occurs";
+    alike(comparison, note, |k| builds[k].clone(), &built, &house);
+    println!("second: {} trees listed and built again over the set that occurs", built.len());
+    Some(())
+}
+
 pub fn compare(comparison: &mut Comparison, seed: u64) {
     if around(comparison, &mut Inputs::new(seed)).is_none() {
         println!("second: the round was not ended: a call that has to give 0 did not");
@@ -103,9 +132,11 @@ fn around(comparison: &mut Comparison, inputs: &mut Inputs) -> Option<()> {
     let texts = rendered(comparison, &bodies)?;
     let read = parsed(comparison, &with(&bodies, &texts))?;
     let house = ordered(comparison, &bodies)?;
-    alike(comparison, "the text that was written is not read as the body in house order", &bodies, &read, &house);
+    let write = |k: usize| render(&bodies[k]);
+    alike(comparison, "the text that was written is not read as the body in house order", write, &read, &house);
     let again = rendered(comparison, &with(&bodies, &read))?;
-    alike(comparison, "the body in house order has another text", &bodies, &again, &texts);
+    alike(comparison, "the body in house order has another text", write, &again, &texts);
+    built_again(comparison, &bodies, &house)?;
 
     // the texts of each set of groups, and the other way round
     let mut by_groups: BTreeMap<Vec<u64>, usize> = BTreeMap::new();
@@ -117,7 +148,7 @@ fn around(comparison: &mut Comparison, inputs: &mut Inputs) -> Option<()> {
         let other = *by_text.entry(&texts[k]).or_insert(k);
         if one != other && !comparison.enough() {
             let note = "equal text and not the same groups, or the other way round";
-            differs(comparison, note, &[one, other, k].map(|k| &bodies[k]), &texts[k], &texts[one]);
+            differs(comparison, note, &[one, other, k].map(write), &texts[k], &texts[one]);
         }
     }
     println!(

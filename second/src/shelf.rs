@@ -11,18 +11,23 @@ pub fn shelf(input: &[u8]) -> String {
     // A table of the length that fits the header, so that 7 is never the answer.
     let n = bytes.get(1).map_or(0, |&n| n as usize);
     let mut table = vec![0; choose(n, 3)];
-    if let Err(refusal) = list(bytes, &mut table) {
-        let (tree, node) = match refusal {
-            Refusal::Short { tree } | Refusal::BodyLength { tree } => (tree, 0),
-            Refusal::TreeRule { tree, node, .. } => (tree, node),
-            _ => (0, 0),
-        };
-        return format!("read {} {} {}\n", refusal.number(), tree, node);
-    }
+    let set = match list(bytes, &mut table) {
+        Ok(collection) => collection.species(),
+        Err(refusal) => {
+            let (tree, node) = match refusal {
+                Refusal::Short { tree } | Refusal::BodyLength { tree } => (tree, 0),
+                Refusal::TreeRule { tree, node, .. } => (tree, node),
+                _ => (0, 0),
+            };
+            return format!("read {} {} {}\n", refusal.number(), tree, node);
+        }
+    };
     let mut room = vec![0; 4 * n - 2];
-    let nodes = match build(n as u64, &table, &mut room) {
+    let nodes = match build(n as u64, set, &table, &mut room) {
         Ok(nodes) => nodes,
         Err(Refusal::NoTree { set }) => return format!("build 10 {set}\n"),
+        // no species occurs
+        Err(Refusal::Set) => return "build 15\n".to_string(),
         Err(other) => panic!("shelf's build: {other:?}"),
     };
     let body = &room[..2 * nodes];

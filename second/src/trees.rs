@@ -1,7 +1,7 @@
 //! Trees, their groups and what they say; bodies and the tree rules
 //! (document 01, "A tree's body and the collection" and "Triplets, links, building").
 
-use crate::triples::{all, choose, has, index, one, triples, triplets_on};
+use crate::triples::{choose, has, has_three, index, one, triples, triplets_on};
 
 #[derive(Clone, Debug, PartialEq, Eq)]
 pub enum Tree {
@@ -45,7 +45,7 @@ impl Tree {
         }
         let mut table = vec![0; choose(n, 3)];
         for (place, (a, b, c)) in triples(n).enumerate() {
-            if has(here, a) && has(here, b) && has(here, c) {
+            if has_three(here, a, b, c) {
                 for (bit, (x, y, z)) in triplets_on(a, b, c) {
                     if !has(smallest[x * n + y], z) {
                         table[place] |= bit;
@@ -70,6 +70,14 @@ impl Tree {
             }
         }
         table
+    }
+
+    /// The tree with other species at its leaves.
+    pub fn renamed(&self, names: &dyn Fn(usize) -> usize) -> Tree {
+        match self {
+            Tree::Leaf(species) => Tree::Leaf(names(*species)),
+            Tree::Inner(children) => Tree::Inner(children.iter().map(|child| child.renamed(names)).collect()),
+        }
     }
 
     /// The same tree with the children of each node by their lowest species.
@@ -227,21 +235,17 @@ pub fn subsets(set: u64) -> Vec<u64> {
     found
 }
 
-/// What each tree on exactly n species says, for n up to 5.
-pub fn tables_of_all_trees(n: usize) -> &'static [Vec<u8>] {
+/// What each tree with exactly the species of the set says, as a table of five species; for each set of these.
+pub fn tables_of_all_trees(set: u64) -> &'static [Vec<u8>] {
     use std::sync::OnceLock;
     static TABLES: OnceLock<Vec<Vec<Vec<u8>>>> = OnceLock::new();
-    let tables = TABLES.get_or_init(|| {
-        let mut tables = vec![Vec::new()];
-        for n in 1..=5 {
-            let trees = all_trees(all(n));
-            assert_eq!(trees.len(), [1, 1, 4, 26, 236][n - 1]);
-            for tree in &trees {
-                assert_eq!(tree.table(n), tree.table_by_definition(n));
-            }
-            tables.push(trees.iter().map(|t| t.table_by_definition(n)).collect());
+    let of_a_set = |set: u64| {
+        let trees = all_trees(set);
+        assert_eq!(trees.len(), [0, 1, 1, 4, 26, 236][set.count_ones() as usize]);
+        for tree in &trees {
+            assert_eq!(tree.table(5), tree.table_by_definition(5));
         }
-        tables
-    });
-    &tables[n]
+        trees.iter().map(|t| t.table_by_definition(5)).collect()
+    };
+    &TABLES.get_or_init(|| (0..32).map(of_a_set).collect())[set as usize]
 }

@@ -36,6 +36,11 @@ pub fn has(set: u64, i: usize) -> bool {
     set & one(i) != 0
 }
 
+/// Does the set have all three?
+pub fn has_three(set: u64, a: usize, b: usize, c: usize) -> bool {
+    has(set, a) && has(set, b) && has(set, c)
+}
+
 /// The species of a set, the lowest first.
 pub fn members(mut set: u64) -> impl Iterator<Item = usize> {
     std::iter::from_fn(move || {

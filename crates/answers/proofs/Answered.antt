@@ -12,7 +12,7 @@ use Rattle.answers.specs.Refusals.{refusalTold}
 use Rattle.answers.specs.declared.Look.{Look}
 use Rattle.answers.specs.declared.Look.the-variants.{Pass, Refuse}
 use Rattle.answers.specs.declared.Refusal.{Refusal}
-use Rattle.answers.specs.declared.Refusal.the-variants.{BadByte, BadCounts, BadLength, BadRecord, BadTable, BadText, BadTree, BadVersion, Contradicted, EndsEarly, LeftOver, NoTree, ShortRoom, Unforced}
+use Rattle.answers.specs.declared.Refusal.the-variants.{BadByte, BadCounts, BadLength, BadRecord, BadSet, BadTable, BadText, BadTree, BadVersion, Contradicted, EndsEarly, LeftOver, NoTree, Outside, ShortRoom, Unforced}
 
 -- At most one answer, and one content of what is lent, meet the contract of an operation.
 pub at-most-one : {A W B : Type 0} {done : W → A} {refused : Refusal → A} {l : List Look} {w : W} {m o : B} {r r′ : A} {p p′ : B} → Settled done refused l w m o r p → Settled done refused l w m o r′ p′
@@ -98,6 +98,8 @@ number-some (Contradicted x) e = omega arith
 number-some (Unforced i) e = omega arith
 number-some (BadRecord i) e = omega arith
 number-some (BadText p) e = omega arith
+number-some BadSet e = omega arith
+number-some (Outside i) e = omega arith
 
 zero-pass : (k : Look) (vs : List Value) → lookTold k vs .number ≡ 0 → k ≡ Pass
 zero-pass Pass vs e = refl

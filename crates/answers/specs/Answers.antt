@@ -18,6 +18,8 @@ pub data Name : Type 0 where
   first-record : Name
   byte-place : Name
   text-length : Name
+  -- request T-03: "Listing and entering now also return the set that occurs"
+  occurring-set : Name
 
 -- a number with its name; or the fault of 6, with its own data
 pub data Value : Type 0 where

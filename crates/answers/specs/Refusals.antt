@@ -2,7 +2,7 @@
 use mathlib.Core.List.{[], _∷_}
 use Rattle.answers.specs.Answers.{Told, byte-place, first-place, first-record, left-over, node-number, rule-broken, stopping-set, table-byte, told, tree-number, triple-index, value}
 use Rattle.answers.specs.declared.Refusal.{Refusal}
-use Rattle.answers.specs.declared.Refusal.the-variants.{BadByte, BadCounts, BadLength, BadRecord, BadTable, BadText, BadTree, BadVersion, Contradicted, EndsEarly, LeftOver, NoTree, ShortRoom, Unforced}
+use Rattle.answers.specs.declared.Refusal.the-variants.{BadByte, BadCounts, BadLength, BadRecord, BadSet, BadTable, BadText, BadTree, BadVersion, Contradicted, EndsEarly, LeftOver, NoTree, Outside, ShortRoom, Unforced}
 
 abbrev pub refusalTold : Refusal → Told
 refusalTold BadVersion = told 1 []
@@ -20,3 +20,7 @@ refusalTold (Unforced i) = told 12 (value triple-index i ∷ [])
 refusalTold (BadRecord i) = told 13 (value first-record i ∷ [])
 -- request T-01: "14 with the byte place"
 refusalTold (BadText p) = told 14 (value byte-place p ∷ [])
+-- request T-03: "15 for an empty set or one with a bit at n or above"
+refusalTold BadSet = told 15 []
+-- request T-03: "16 with the first triple"
+refusalTold (Outside i) = told 16 (value triple-index i ∷ [])

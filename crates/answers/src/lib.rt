@@ -30,6 +30,8 @@ pub enum Refusal {
     Unforced(usize),
     BadRecord(usize),
     BadText(usize),
+    BadSet,
+    Outside(usize),
 }
 
 // A look at what is handed in.

@@ -1,15 +1,18 @@
 -- The body of a tree: it is good, the tree is read back from it, and it has its room. Assumes nothing.
-use mathlib.Core.Path.{_≡_, refl, sym, ap, _∙_}
+use mathlib.Core.Path.{_≡_, refl, sym, ap, fun-ext, _∙_}
 use mathlib.Core.Bool.{Bool, true, false, _||_, So}
 use mathlib.Core.List.{List, [], _∷_, _++_, append-nil, append-assoc}
-use Prim.Native.Nat.{ℕ, zero, suc, _+_, _*_, _%_, _≤_, _<_}
+use Prim.Native.Nat.{ℕ, zero, suc, _+_, _*_, _%_, _^_, _≤_, _<_}
 use native.Mathlib.Omega.{arith}
 use borrow.Author.Tests.{eq-eqb, ne-eqb, le-ltb}
 use lib.ListN.{length, getD, drop, length-append}
 use lib.Seq.{getD-drop, drop-drop, drop-at}
-use Rattle.sets.specs.Species.{Species, Below, either, from, put}
+use Rattle.sets.specs.Species.{Species, Below, either, from, members, put}
+use Rattle.sets.specs.Sets.{has, size}
 use Rattle.sets.proofs.Bools.{or-l, or-r}
 use Rattle.sets.proofs.Members.{from-one, from-bound}
+use Rattle.sets.proofs.Sizes.{size-members}
+use Rattle.sets.proofs.Tests.{has-below}
 use Rattle.trees.specs.Trees.{Tree, Forest, leaf, node, nil, cons, under, underF, leaves, leavesF, degree, wellFormed}
 use Rattle.trees.proofs.Formed.{Formed, FormedF, formed-e}
 use Rattle.bodies.specs.Nodes.{nodes, width, mostNodes, bodyLength, longest, badLength, roomFor, Good}
@@ -138,3 +141,11 @@ module _ (n : ℕ) (t : Tree) (w : So (wellFormed t)) (bd : Below n (under t)) w
 
     pub body-badLength : badLength (length (bodyOf t)) ≡ false
     body-badLength = ap badLength (body-length t) ∙ good-length (nodeCount t) (count-pos t) (omega (arith, nodes-few t w, leaves-few n t w bd))
+
+-- a tree with exactly the species of a set
+pub set-room : (n s : ℕ) → s < 2 ^ n → (t : Tree) → So (wellFormed t) → ((x : ℕ) → under t x ≡ has s x) → length (bodyOf t) ≤ roomFor (size s)
+unfolding members
+set-room n s h t w e =
+    let bd : Below n (under t) = λ x i. has-below n s h x (sym (e x) ∙ i) in
+    let l : length (from 0 n (under t)) ≡ size s = ap (λ (S : Species). length (from 0 n S)) (fun-ext e) ∙ sym (size-members n s h) in
+    omega (arith, body-length t, nodes-few t w, leaves-from n t (formed-e t w) bd)

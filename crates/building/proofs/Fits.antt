@@ -1,54 +1,53 @@
 -- A tree that was built has its body in the room. Assumes nothing.
 use mathlib.Core.Bool.{So}
-use mathlib.Core.List.{List}
+use mathlib.Core.List.{List, [], _∷_}
 use mathlib.Core.Path.{_∙_, _≡_, ap, refl, sym}
-use Prim.Native.Nat.{ℕ, _<_, _≤_}
+use Prim.Native.Nat.{ℕ, _≤_}
 use native.Mathlib.Omega.{arith}
-use borrow.Author.Tests.{lt-ltb, ltb-true}
-use lib.ListN.{length}
-use Rattle.sets.proofs.Members.{all-below}
-use Rattle.sets.specs.Species.{Below, below}
+use Rattle.sets.proofs.Least.{some-member}
+use Rattle.sets.proofs.Tests.{true-has}
+use Rattle.sets.specs.Sets.{has, size}
 use Rattle.trees.proofs.Theorems.{built-tree}
 use Rattle.trees.specs.Build.{Outcome, build, stop, tree}
 use Rattle.trees.specs.Held.{HeldBy}
-use Rattle.trees.specs.Trees.{Tree, inHouseOrder, under}
+use Rattle.trees.specs.Trees.{Tree, inHouseOrder}
 use Rattle.tables.proofs.Bytes.{entered-proper}
 use Rattle.tables.specs.Bytes.{entered}
-use Rattle.bodies.proofs.Back.{body-length, body-room}
+use Rattle.bodies.proofs.Back.{body-length, set-room}
 use Rattle.bodies.specs.Draws.{nodeCount}
 use Rattle.bodies.specs.Nodes.{bodyLength, roomFor}
-use Rattle.answers.proofs.Answered.{then-pass}
-use Rattle.answers.proofs.Good.{count-pass, room-pass}
-use Rattle.answers.specs.Looks.{answered, firstRefusal, lookBytes, lookCount, lookRoom, lookTable}
+use Rattle.answers.proofs.Answered.{first-append, then-pass}
+use Rattle.answers.specs.Looks.{answered, firstRefusal}
 use Rattle.answers.specs.declared.Look.{Look}
 use Rattle.answers.specs.declared.Look.the-variants.{Pass, Refuse}
-use Rattle.building.specs.Builds.{buildAnswer, buildLooks, nodesIn, outcome}
+use Rattle.building.specs.Builds.{buildAnswer, buildLooks, inputLooks, lookOutcome, nodesIn, outcome}
+use Rattle.building.specs.GoodSet.{GoodSet}
 use Rattle.building.specs.declared.Answer.the-variants.{Done, Refused}
 use Rattle.answers.specs.declared.Written.{Written}
+use Rattle.building.proofs.Chosen.{input-good, set-below, set-small}
+use Rattle.building.proofs.Numbered.{not-empty}
 
 done-pass : (k : Look) (w v : Written) → answered Done Refused k v ≡ Done w → (k ≡ Pass) × (w ≡ v)
 done-pass Pass w v e = let z : v ≡ w = cc in (refl, sym z)
 done-pass (Refuse x) w v e = let z : _≡_ {A = ℕ} 0 1 = cc in absurd (omega arith)
 
-module _ (n : ℕ) (t : List ℕ) (l : ℕ) (some : 0 < n) (room : roomFor n ≤ l) where
-  tree-fits : (T : Tree) → build (entered t) n (below n) ≡ tree T → bodyLength (nodeCount T) ≤ l
+module _ (n s : ℕ) (t : List ℕ) (l : ℕ) (g : GoodSet n s) (room : roomFor (size s) ≤ l) where
+  tree-fits : (T : Tree) → build (entered t) n (has s) ≡ tree T → bodyLength (nodeCount T) ≤ l
   tree-fits T e =
-      let h : HeldBy (entered t) (below n) T × So (inHouseOrder T) = built-tree (entered t) (entered-proper t) n (below n) (all-below n) 0 (lt-ltb 0 n some) T e in
-      let b : Below n (under T) = λ x i. ltb-true x n (sym (h .0 .species x) ∙ i) in
-      omega (arith, body-length T, body-room n T (h .0 .formed) b, room)
+      let m = some-member s (not-empty s (g .some)) in
+      let h : HeldBy (entered t) (has s) T × So (inHouseOrder T) = built-tree (entered t) (entered-proper t) n (has s) (set-below n s g) (m .0) (true-has s (m .0) (m .1)) T e in
+      omega (arith, body-length T, set-room n s (set-small n s g) T (h .0 .formed) (h .0 .species), room)
 
-  outcome-fits : (R : Outcome) → build (entered t) n (below n) ≡ R → bodyLength (nodesIn R) ≤ l
+  outcome-fits : (R : Outcome) → build (entered t) n (has s) ≡ R → bodyLength (nodesIn R) ≤ l
   outcome-fits (tree T) e = tree-fits T e
   outcome-fits (stop U) e = omega arith
 
 -- the body of a tree that was built lies in the room
-pub done-fits : (n : ℕ) (t : List ℕ) (l : ℕ) (w : Written) → buildAnswer n t l ≡ Done w → bodyLength (w .nodes) ≤ l
+pub done-fits : (n s : ℕ) (t : List ℕ) (l : ℕ) (w : Written) → buildAnswer n s t l ≡ Done w → bodyLength (w .nodes) ≤ l
 unfolding outcome
-done-fits n t l w e =
-    let d = done-pass (firstRefusal (buildLooks n t l)) w (record { nodes = nodesIn (outcome n t) }) e in
-    let a = then-pass (lookCount n) _ .0 (d .0) in
-    let b = then-pass (lookTable n (length t)) _ .0 (a .1) in
-    let c = then-pass (lookBytes t) _ .0 (b .1) in
-    let r = then-pass (lookRoom (roomFor n) l) _ .0 (c .1) in
-    let f = outcome-fits n t l (count-pass n .0 (a .0) .some) (room-pass (roomFor n) l .0 (r .0)) (build (entered t) n (below n)) refl in
+done-fits n s t l w e =
+    let d = done-pass (firstRefusal (buildLooks n s t l)) w (record { nodes = nodesIn (outcome n s t) }) e in
+    let p = then-pass (firstRefusal (inputLooks n s t l)) _ .0 (sym (first-append (inputLooks n s t l) (lookOutcome (outcome n s t) ∷ [])) ∙ d .0) in
+    let i = input-good n s t l (p .0) in
+    let f = outcome-fits n s t l (i .1) (i .2) (build (entered t) n (has s)) refl in
     omega (arith, f, ap (λ (x : Written). x .nodes) (d .1))

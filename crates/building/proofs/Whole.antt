@@ -3,12 +3,10 @@ use mathlib.Core.List.{List, []}
 use mathlib.Core.Path.{_∙_, _≡_, ap, refl, sym}
 use Prim.Native.Nat.{_<_, _^_, _≤_, ℕ}
 use native.Mathlib.Omega.{arith}
-use borrow.Author.Tests.{lt-ltb}
 use lib.ListN.{length, take}
-use Rattle.sets.proofs.Members.{all-below}
-use Rattle.sets.proofs.Tests.{has-upto, number-has}
-use Rattle.sets.specs.Sets.{has, upto}
-use Rattle.sets.specs.Species.{below}
+use Rattle.sets.proofs.Least.{some-member}
+use Rattle.sets.proofs.Tests.{number-has, true-has}
+use Rattle.sets.specs.Sets.{has}
 use Rattle.trees.proofs.Bound.{build-bound}
 use Rattle.trees.specs.Build.{Outcome, build, stop}
 use Rattle.tables.proofs.Bytes.{entered-proper}
@@ -20,9 +18,12 @@ use Rattle.answers.proofs.Answered.{is-done, is-refused}
 use Rattle.answers.specs.declared.Look.the-variants.{Refuse}
 use Rattle.answers.specs.declared.Refusal.the-variants.{NoTree}
 use Rattle.building.specs.Builds.{Raises, outcome}
+use Rattle.building.specs.GoodSet.{GoodSet}
 use Rattle.building.specs.Grows.{Stands}
 use Rattle.bodies.specs.Nodes.{bodyLength, none}
 use Rattle.building.specs.declared.Answer.the-variants.{Done, Refused}
+use Rattle.building.proofs.Chosen.{set-below}
+use Rattle.building.proofs.Numbered.{not-empty}
 
 -- the tree was written to the front of a draft d, and from there to the room
 pub raise-done : (R : Outcome) (k m : ℕ) (d d′ o o′ : List ℕ) → Stands R k none 0 d d′ m → bodyLength m ≤ length d → bodyLength m ≤ length o → o′ ≡ written o (take (bodyLength m) d′)
@@ -37,7 +38,9 @@ raise-done R k m d d′ o o′ w hd ho e =
 pub raise-stop : (R : Outcome) (u : ℕ) (o : List ℕ) → u < 2 ^ 64 → R ≡ stop (has u) → Raises R [] o (Refused (NoTree u)) o
 raise-stop R u o h e = rw e (is-refused (NoTree u) (ap (λ (v : ℕ). Refuse (NoTree v)) (number-has 64 u h)))
 
--- the build over 64 species starts from the same set
-pub same-outcome : (n : ℕ) (t : List ℕ) → 0 < n → n ≤ 64 → build (entered t) 64 (has (upto n)) ≡ outcome n t
+-- the build over 64 species is that over n, for a set of species below n
+pub same-outcome : (n s : ℕ) (t : List ℕ) → GoodSet n s → n ≤ 64 → build (entered t) 64 (has s) ≡ outcome n s t
 unfolding outcome
-same-outcome n t p h = ap (build (entered t) 64) (has-upto n) ∙ build-bound (entered t) (entered-proper t) n 64 h (below n) (all-below n) 0 (lt-ltb 0 n p)
+same-outcome n s t g h =
+    let m = some-member s (not-empty s (g .some)) in
+    build-bound (entered t) (entered-proper t) n 64 h (has s) (set-below n s g) (m .0) (true-has s (m .0) (m .1))

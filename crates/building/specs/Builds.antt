@@ -1,9 +1,8 @@
--- Building the tree of a table. Document 01, "Numbers handed back".
+-- Building the tree of a set of species, of a table. Document 01, "Numbers handed back"; request T-03.
 use mathlib.Core.List.{List, [], _∷_, _++_}
 use Prim.Native.Nat.{ℕ}
 use lib.ListN.{length}
-use Rattle.sets.specs.Species.{below}
-use Rattle.sets.specs.Sets.{number}
+use Rattle.sets.specs.Sets.{has, number, size}
 use Rattle.trees.specs.Build.{Outcome, tree, stop, build}
 use Rattle.tables.specs.Bytes.{entered}
 use Rattle.bodies.specs.Nodes.{roomFor}
@@ -15,12 +14,13 @@ use Rattle.answers.specs.declared.Look.{Look}
 use Rattle.answers.specs.declared.Look.the-variants.{Pass, Refuse}
 use Rattle.answers.specs.declared.Refusal.the-variants.{NoTree}
 use Rattle.answers.specs.declared.Written.{Written}
+use Rattle.building.specs.GoodSet.{lookOutside, lookSet}
 use Rattle.building.specs.declared.Answer.{Answer}
 use Rattle.building.specs.declared.Answer.the-variants.{Done, Refused}
 
--- "The build starts from all n species."
-unfoldable pub outcome : ℕ → List ℕ → Outcome
-outcome n t = build (entered t) n (below n)
+-- request T-03: "the build takes such a set"; it is s, of n species, and t the table
+unfoldable pub outcome : ℕ → ℕ → List ℕ → Outcome
+outcome n s t = build (entered t) n (has s)
 
 -- 10: "no tree exists", with "the stopping set"
 abbrev pub lookOutcome : Outcome → Look
@@ -43,26 +43,26 @@ buildDone R = record { nodes = nodesIn R }
 abbrev pub buildRoom : Outcome → List ℕ → List ℕ
 buildRoom R o = written o (bodyIn R)
 
--- 2, 7, 8, and 9 "(room under 4n - 2 bytes)", for the table t and a room of l bytes
-abbrev pub inputLooks : ℕ → List ℕ → ℕ → List Look
-inputLooks n t l = lookCount n ∷ lookTable n (length t) ∷ lookBytes t ∷ lookRoom (roomFor n) l ∷ []
+-- 2, 7, 8; "in the build after 8 and before 9: 15 [..]; 16"; then 9, "Room becomes 4s - 2 bytes for s species in the set": for the set s, the table t and a room of l bytes
+abbrev pub inputLooks : ℕ → ℕ → List ℕ → ℕ → List Look
+inputLooks n s t l = lookCount n ∷ lookTable n (length t) ∷ lookBytes t ∷ lookSet n s ∷ lookOutside n s t ∷ lookRoom (roomFor (size s)) l ∷ []
 
--- "Build: 2, 7, 8, 9 (room under 4n - 2 bytes), 10"
-abbrev pub buildLooks : ℕ → List ℕ → ℕ → List Look
-buildLooks n t l = inputLooks n t l ++ (lookOutcome (outcome n t) ∷ [])
+-- "Build: 2, 7, 8, 9 (room under 4n - 2 bytes), 10", with 15 and 16 after 8
+abbrev pub buildLooks : ℕ → ℕ → List ℕ → ℕ → List Look
+buildLooks n s t l = inputLooks n s t l ++ (lookOutcome (outcome n s t) ∷ [])
 
 -- the looks l, then 10: o is the room before, r the answer, o′ the room after
 abbrev pub Raises : Outcome → List Look → List ℕ → Answer → List ℕ → Type 0
 Raises R l o r o′ = Settled Done Refused (l ++ (lookOutcome R ∷ [])) (buildDone R) (buildRoom R o) o r o′
 
-abbrev pub Builds : ℕ → List ℕ → List ℕ → Answer → List ℕ → Type 0
-Builds n t o r o′ = Raises (outcome n t) (inputLooks n t (length o)) o r o′
+abbrev pub Builds : ℕ → ℕ → List ℕ → List ℕ → Answer → List ℕ → Type 0
+Builds n s t o r o′ = Raises (outcome n s t) (inputLooks n s t (length o)) o r o′
 
-abbrev pub buildAnswer : ℕ → List ℕ → ℕ → Answer
-buildAnswer n t l = answered Done Refused (firstRefusal (buildLooks n t l)) (buildDone (outcome n t))
+abbrev pub buildAnswer : ℕ → ℕ → List ℕ → ℕ → Answer
+buildAnswer n s t l = answered Done Refused (firstRefusal (buildLooks n s t l)) (buildDone (outcome n s t))
 
-abbrev pub buildAfter : ℕ → List ℕ → List ℕ → List ℕ
-buildAfter n t o = after (firstRefusal (buildLooks n t (length o))) (buildRoom (outcome n t) o) o
+abbrev pub buildAfter : ℕ → ℕ → List ℕ → List ℕ → List ℕ
+buildAfter n s t o = after (firstRefusal (buildLooks n s t (length o))) (buildRoom (outcome n s t) o) o
 
 abbrev pub buildTold : Answer → Told
 buildTold (Done w) = told 0 (value node-count (w .nodes) ∷ [])

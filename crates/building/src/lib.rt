@@ -1,4 +1,4 @@
-// Building the tree that holds every entered triplet, or the set of species that shows why there is none.
+// Building the tree of a set of species that holds every entered triplet, or the set that shows why there is none.
 ghost use mathlib.Core.Path.{_≡_};
 ghost use mathlib.Core.List.{[]};
 ghost use Prim.Native.Nat.{_+_, _*_, _<_, _≤_};
@@ -7,8 +7,10 @@ ghost use Rattle.sets.specs.Sets.{has, size};
 ghost use Rattle.trees.specs.Build.{build};
 ghost use Rattle.tables.specs.Bytes.{entered};
 ghost use Rattle.bodies.specs.Nodes.{roomFor, mostNodes, longest};
-ghost use Rattle.building.specs.Builds.{Raises, Builds};
+ghost use Rattle.answers.specs.Looks.{firstRefusal};
+ghost use Rattle.building.specs.Builds.{inputLooks, Raises, Builds};
 ghost use Rattle.building.specs.Grows.{Grows};
+ghost use Rattle.building.specs.GoodSet.{badSet};
 
 pub enum Answer {
     Done(answers::Written),
@@ -70,19 +72,52 @@ fn raise(t: &[u8], s: u64, room: &mut [u8]) -> Answer
     }
 }
 
-// Builds the tree of a table of n species to the front of the room. A refusal leaves every byte as it was.
-pub fn build(n: usize, t: &[u8], room: &mut [u8]) -> Answer
-    ensures { λ r. ⌜ Builds n (now (t .entry)) (now (room .entry)) r (now (room .exit)) ⌝ }
+// Is the set empty, or has it a species that is not below n?
+fn bad_set(n: usize, s: u64) -> bool
+    requires { ⌜ n ≤ 64 ⌝ }
+    ensures { λ r. ⌜ r ≡ badSet n s ⌝ }
+{
+    s == 0 || !sets::subset(s, sets::all(n))
+}
+
+// Looks at all that is handed in, for a room of l bytes.
+fn look_input(n: usize, set: u64, t: &[u8], l: usize) -> answers::Look
+    ensures { λ r. ⌜ r ≡ firstRefusal (inputLooks n set (now (t .entry)) l) ⌝ }
 {
     let look = answers::look_table(n, t);
     match look {
         answers::Look::Pass => {}
         answers::Look::Refuse(x) => {
-            return Answer::Refused(x);
+            return answers::Look::Refuse(x);
         }
     }
-    if room.len() < bodies::room(n) {
-        return Answer::Refused(answers::Refusal::ShortRoom);
+    if bad_set(n, set) {
+        return answers::Look::Refuse(answers::Refusal::BadSet);
     }
-    raise(t, sets::all(n), room)
+    let found = outside::first_outside(n, t, set);
+    match found {
+        tables::Found::Nowhere => {}
+        tables::Found::At(x) => {
+            return answers::Look::Refuse(answers::Refusal::Outside(tables::index(
+                x.low,
+                x.mid,
+                x.high,
+            )));
+        }
+    }
+    if l < bodies::room(sets::size(set) as usize) {
+        return answers::Look::Refuse(answers::Refusal::ShortRoom);
+    }
+    answers::Look::Pass
+}
+
+// Builds the tree of a set of species, of a table of n species, to the front of the room. A refusal leaves every byte as it was.
+pub fn build(n: usize, set: u64, t: &[u8], room: &mut [u8]) -> Answer
+    ensures { λ r. ⌜ Builds n set (now (t .entry)) (now (room .entry)) r (now (room .exit)) ⌝ }
+{
+    let look = look_input(n, set, t, room.len());
+    match look {
+        answers::Look::Pass => raise(t, set, room),
+        answers::Look::Refuse(x) => Answer::Refused(x),
+    }
 }

@@ -26,7 +26,7 @@ shape k =
     cond (eqb k 108) (row 0 1 1) (
     cond (eqb k 101) (row 1 3 1) (
     cond (eqb k 111) (row 1 1 1) (
-    cond (eqb k 98) (row 1 1 1) (
+    cond (eqb k 98) (row 2 1 1) (
     cond (eqb k 99) (row 1 1 1) (
     cond (eqb k 110) (row 1 1 1) (
     cond (eqb k 119) (row 1 1 1) unknown)))))))

@@ -8,10 +8,11 @@ use native.Mathlib.Omega.{arith}
 use borrow.Author.Tests.{le-ltb, lt-ltb, ltb-false}
 use lib.ListN.{drop, length, take}
 use Rattle.bodies.specs.Faults.{fault}
-use Rattle.bodies.specs.Nodes.{badLength, nodes}
+use Rattle.bodies.specs.Nodes.{Good, badLength, nodes}
 use Rattle.bodies.specs.declared.Verdict.{Verdict}
 use Rattle.answers.proofs.Answered.{first-on, first-stop, pass-false, then-nothing, then-pass}
-use Rattle.answers.specs.Looks.{answered, firstRefusal, lookLength, refuseIf, ruled}
+use Rattle.answers.proofs.Good.{rules-pass}
+use Rattle.answers.specs.Looks.{answered, firstRefusal, lookLength, lookRules, refuseIf, ruled}
 use Rattle.answers.specs.declared.Look.{Look}
 use Rattle.answers.specs.declared.Look.the-variants.{Pass, Refuse}
 use Rattle.answers.specs.declared.Refusal.{Refusal}
@@ -64,14 +65,24 @@ next-refuse : (k : Look) (x : Refusal) (q : ℕ) → answered At Stop k q ≡ St
 next-refuse Pass x q e = let z : _≡_ {A = ℕ} 0 1 = cc in absurd (omega arith)
 next-refuse (Refuse y) x q e = let z : y ≡ x = cc in ap Refuse z
 
--- where the next tree starts, the bytes have not ended
-pub next-at : (b : List ℕ) (k p : ℕ) → nextOf b k ≡ At p → (p ≡ start b (suc k)) × (p ≤ length b)
+-- what is so of tree k in a good collection
+abbrev pub Sound : List ℕ → ℕ → Type 0
+Sound b k = (start b (suc k) ≤ length b) × (badLength (lengthAt b (start b k)) ≡ false) × Good (species b) (nodes (bodyAt b k))
+
+-- where the next tree starts, this one was good
+pub next-at : (b : List ℕ) (k p : ℕ) → nextOf b k ≡ At p → (p ≡ start b (suc k)) × Sound b k
 next-at b k p h =
     let q = next-pass (firstRefusal (treeLooks b k)) p _ h in
     let r = then-pass (refuseIf (shortLength b k) (EndsEarly k)) _ .0 (q .0) in
     let s = then-pass (lookLength k (lengthAt b (start b k))) _ .0 (r .1) in
     let t = then-pass (refuseIf (shortBody b k) (EndsEarly k)) _ .0 (s .1) in
-    (q .1, omega (arith, q .1, ltb-false (length b) (start b (suc k)) (pass-false (shortBody b k) _ (t .0))))
+    let u = then-pass (lookRules k (species b) (bodyAt b k)) _ .0 (t .1) in
+    let w : Sound b k = (
+      ltb-false (length b) (start b (suc k)) (pass-false (shortBody b k) _ (t .0)),
+      pass-false (badLength (lengthAt b (start b k))) _ (s .0),
+      rules-pass k (species b) (bodyAt b k) .0 (u .0),
+    ) in
+    (q .1, w)
 
 -- a turn of a loop that has read k of m trees: on, or out with the refusal
 pub turn-on : (b : List ℕ) (m k p : ℕ) → k < m → nextOf b k ≡ At p → firstRefusal (looksFrom b k (m - k)) ≡ firstRefusal (looksFrom b (k + 1) (m - (k + 1)))

@@ -7,11 +7,9 @@ use Prim.Native.Nat.{_*_, _+_, _<_, _≤_, suc, zero, ℕ}
 use native.Mathlib.Omega.{arith}
 use borrow.Author.Tests.{eq-eqb, eqb-false, eqb-true, le-ltb, ltb-false, ne-eqb, not-false}
 use lib.Dec.{eqb, ltb}
-use lib.ListN.{drop, length, length-drop}
-use lib.Seq.{length-take-le}
+use lib.ListN.{length}
 use Rattle.sets.proofs.Bools.{ne-e, or-none, test}
 use Rattle.bodies.proofs.Rules.{length-most, no-fault}
-use Rattle.bodies.specs.Nodes as Nodes
 use Rattle.bodies.specs.Nodes.{badLength, longest, nodes}
 use Rattle.answers.proofs.Answered.{pass-false, then-pass}
 use Rattle.answers.proofs.Good.{rules-pass}
@@ -20,17 +18,13 @@ use Rattle.answers.specs.declared.Look.{Look}
 use Rattle.answers.specs.declared.Look.the-variants.{Pass, Refuse}
 use Rattle.answers.specs.declared.Refusal.{Refusal}
 use Rattle.answers.specs.declared.Refusal.the-variants.{BadCounts, BadVersion, EndsEarly}
-use Rattle.collections.proofs.Starts.{start-suc}
-use Rattle.collections.proofs.Steps.{end-good}
+use Rattle.collections.proofs.Starts.{body-length, start-suc}
+use Rattle.collections.proofs.Steps.{Sound, end-good}
 use Rattle.collections.specs.Collection.{Collection}
 use Rattle.collections.specs.Layout.{bodyAt, lengthAt, noByte, shortBody, shortHeader, shortLength, species, start, trees, version, wrongCounts, wrongVersion}
 use Rattle.collections.specs.Reads.{countsOf, looksFrom, readAnswer, readLooks}
 use Rattle.collections.specs.declared.Answer.the-variants.{Done, Refused}
 use Rattle.collections.specs.declared.Counts.{Counts}
-
--- what is so of tree k in a good collection
-abbrev Sound : List ℕ → ℕ → Type 0
-Sound b k = (start b (suc k) ≤ length b) × (badLength (lengthAt b (start b k)) ≡ false) × Nodes.Good (species b) (nodes (bodyAt b k))
 
 module _ (b : List ℕ) where
   -- every tree from k on is good, and what follows the last one is nothing
@@ -118,11 +112,7 @@ module _ (b : List ℕ) (w : Collection b) where
 
   -- each body has a good length
   pub whole-long : (k : ℕ) → k < trees b → badLength (length (bodyAt b k)) ≡ false
-  unfolding start
-  whole-long k l = rw long (w .long k l)
-    where
-      long : length (bodyAt b k) ≡ lengthAt b (start b k)
-      long = length-take-le (lengthAt b (start b k)) (drop (start b k + 2) b) (omega (arith, length-drop (start b k + 2) b, w .inside k l))
+  whole-long k l = rw (body-length b k (w .inside k l)) (w .long k l)
 
 -- ---- what an answer says
 

@@ -4,7 +4,7 @@ use mathlib.Core.List.{List, [], _∷_, _++_}
 use Prim.Native.Nat.{ℕ, zero, suc, _-_}
 use lib.Dec.{ltb}
 use lib.ListN.{length}
-use Rattle.answers.specs.Answers.{Told, Value, species-count, told, tree-count, value}
+use Rattle.answers.specs.Answers.{Told, Value, occurring-set, species-count, told, tree-count, value}
 use Rattle.answers.specs.Looks.{answered, firstRefusal, lookLength, lookRules, refuseIf}
 use Rattle.answers.specs.Refusals.{refusalTold}
 use Rattle.answers.specs.declared.Look.{Look}
@@ -14,6 +14,7 @@ use Rattle.collections.specs.declared.Answer.the-variants.{Done, Refused
 use Rattle.collections.specs.declared.Counts.{Counts}
 use Rattle.collections.specs.declared.Next.{Next}
 use Rattle.collections.specs.declared.Next.the-variants.{At, Stop}
+use Rattle.collections.specs.Occurs.{occurring}
 use Rattle.collections.specs.Layout.{bodyAt, lengthAt, noByte, shortBody, shortHeader, shortLength, species, start, trees, wrongCounts, wrongVersion}
 
 module _ (b : List ℕ) where
@@ -39,9 +40,9 @@ module _ (b : List ℕ) where
       ∷ refuseIf (wrongCounts b) BadCounts
       ∷ looksFrom 0 (trees b)
 
-  -- "list: n and tree count"; "Reading returns what listing returns"
+  -- "list: n and tree count"; "Reading returns what listing returns"; request T-03: "also .. the set that occurs"
   abbrev pub countsOf : Counts
-  countsOf = record { n = species b; trees = trees b }
+  countsOf = record { n = species b; trees = trees b; set = occurring b }
 
   abbrev pub readAnswer : Answer
   readAnswer = answered Done Refused (firstRefusal readLooks) countsOf
@@ -54,7 +55,7 @@ module _ (b : List ℕ) where
   nextOf k = answered At Stop (firstRefusal (treeLooks k)) (start b (suc k))
 
 abbrev pub countValues : Counts → List Value
-countValues c = value species-count (c .n) ∷ value tree-count (c .trees) ∷ []
+countValues c = value species-count (c .n) ∷ value tree-count (c .trees) ∷ value occurring-set (c .set) ∷ []
 
 abbrev pub readTold : Answer → Told
 readTold (Done c) = told 0 (countValues c)

@@ -1,19 +1,23 @@
 // Reading a collection: its header, the lengths, and each tree's body.
 ghost use mathlib.Core.Path.{_≡_};
 ghost use Prim.Native.Nat.{ℕ, suc, _+_, _<_, _≤_};
-ghost use mathlib.Core.Bool.{_||_};
+ghost use mathlib.Core.Bool.{_||_, false};
 ghost use lib.Dec.{eqb, ltb};
 ghost use lib.ListN.{length};
+ghost use Rattle.bodies.specs.Draws.{treeOf};
+ghost use Rattle.bodies.specs.Nodes.{Good, badLength, nodes};
+ghost use Rattle.groups.specs.Groups.{setOf};
 ghost use Rattle.collections.specs.Layout.{lengthAt, start, species, trees};
 ghost use Rattle.collections.specs.Reads.{nextOf, answerFrom, readAnswer};
 
 // The longest collection: its header, and 16 trees, each with two bytes of length and the longest body.
 pub const LONGEST: usize = 3 + 16 * (2 + bodies::LONGEST);
 
-// What a good collection has.
+// What a good collection has; of the species, the set that occurs.
 pub struct Counts {
     pub n: usize,
     pub trees: usize,
+    pub set: u64,
 }
 
 pub enum Answer {
@@ -88,17 +92,30 @@ fn one_tree(b: &[u8], n: usize, k: usize, at: usize) -> Next
     }
 }
 
-// The trees, one after the other, and then what is left over.
+// The species under the root of a good body.
+fn tree_set(body: &[u8]) -> u64
+    requires { ⌜ Good 64 (nodes (now body)) × (badLength (length (now body)) ≡ false) ⌝ }
+    ensures { λ r. ⌜ r ≡ setOf (treeOf (now (body .entry))) ⌝ }
+{
+    let mut g = [0; bodies::MOST_NODES];
+    groups::groups(body, &mut g);
+    g[0]
+}
+
+// The trees, one after the other, with their species, and then what is left over.
 fn all_trees(b: &[u8], n: usize, m: usize) -> Answer
-    requires { ⌜ (3 ≤ length (now b)) × (n ≡ species (now b)) × (m ≡ trees (now b)) ⌝ }
+    requires { ⌜ (3 ≤ length (now b)) × (n ≡ species (now b)) × (m ≡ trees (now b)) × (n ≤ 64) ⌝ }
     ensures { λ r. ⌜ r ≡ answerFrom (now (b .entry)) 0 (trees (now (b .entry))) ⌝ }
 {
     let mut at = 3;
+    let mut set = 0;
     let mut k = 0;
     while k < m {
         let s = one_tree(b, n, k, at);
         match s {
             Next::At(p) => {
+                let from = at + 2;
+                set = sets::union(set, tree_set(&b[from..p]));
                 at = p;
             }
             Next::Stop(x) => {
@@ -110,7 +127,11 @@ fn all_trees(b: &[u8], n: usize, m: usize) -> Answer
     if at < b.len() {
         return Answer::Refused(answers::Refusal::LeftOver(b.len() - at));
     }
-    Answer::Done(Counts { n: n, trees: m })
+    Answer::Done(Counts {
+        n: n,
+        trees: m,
+        set: set,
+    })
 }
 
 // Is n 0 or over 64, or are there over 16 trees?

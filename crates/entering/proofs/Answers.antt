@@ -1,5 +1,5 @@
--- The answer and the content in two steps: the answer settled with the table cleared, and then the table filled. Assumes nothing.
-use mathlib.Core.List.{List}
+-- The answer and the content in two steps: the answer settled with the table cleared, and then the table filled and the species gathered. Assumes nothing.
+use mathlib.Core.List.{List, []}
 use mathlib.Core.Path.{_∙_, _≡_, ap, ap₂, refl, sym}
 use Prim.Native.Nat.{_≤_, ℕ}
 use native.Mathlib.Omega.{arith}
@@ -15,9 +15,10 @@ use Rattle.answers.specs.declared.Refusal.{Refusal}
 use Rattle.tables.specs.Bytes.{wrongLength}
 use Rattle.tables.specs.Index.{C}
 use Rattle.entering.proofs.Filling.{fill-table}
+use Rattle.entering.proofs.Gathering.{gathered-first}
 use Rattle.entering.proofs.Records.{firstBad-le}
 use Rattle.entering.specs.Enters.{Enters, enterLooks, entry, fill, firstBad, decided, decidedLooks}
-use Rattle.entering.specs.Passes.{Ready, cleared, filled}
+use Rattle.entering.specs.Passes.{Ready, cleared, filled, gathered}
 use Rattle.entering.specs.declared.Answer.{Answer}
 use Rattle.entering.specs.declared.Answer.the-variants.{Done, Refused}
 use Rattle.entering.specs.declared.Entry.{Entry}
@@ -31,10 +32,10 @@ refused-stop Pass x w q = let z : _≡_ {A = ℕ} 0 1 = cc in absurd (omega arit
 refused-stop (Refuse y) x w q = let z : y ≡ x = cc in ap Refuse z
 
 -- what holds where nothing was refused
-pub done-decided : (n m k l : ℕ) (e : Entry) → decided n m k l ≡ Done e → (e ≡ entry n) × (n ≤ 64) × (l ≡ C n 3) × (m ≤ k)
+pub done-decided : (n m k l : ℕ) (e : Entry) → decided n m k l ≡ Done e → (e ≡ entry n []) × (n ≤ 64) × (l ≡ C n 3) × (m ≤ k)
 unfolding decided
 done-decided n m k l e q =
-    let d = done-pass (firstRefusal (decidedLooks n m k l)) e (entry n) q in
+    let d = done-pass (firstRefusal (decidedLooks n m k l)) e (entry n []) q in
     let a = then-pass (lookCount n) _ .0 (d .0) in
     let b = then-pass (lookTable n l) _ .0 (a .1) in
     let c = then-pass (refuseIf (ltb k m) _) Pass .0 (b .1) in
@@ -42,7 +43,7 @@ done-decided n m k l e q =
 
 -- k is the first bad one of the m records, r is the answer settled, and t₁ the table with it
 module _ (n : ℕ) (rs : List (List ℕ)) (t t₁ : List ℕ) (m k : ℕ) (r : Answer) (o : m ≡ length rs) (p : k ≡ firstBad n rs) (s : r ≡ decided n m k (length t)) (c : t₁ ≡ cleared r t) where
-  is-answer : answered Done Refused (firstRefusal (enterLooks n rs (length t))) (entry n) ≡ r
+  is-answer : answered Done Refused (firstRefusal (enterLooks n rs (length t))) (entry n []) ≡ r
   unfolding decided
   is-answer = sym (s ∙ ap₂ (λ (i j : ℕ). decided n i j (length t)) o p)
 
@@ -56,14 +57,17 @@ module _ (n : ℕ) (rs : List (List ℕ)) (t t₁ : List ℕ) (m k : ℕ) (r : A
         rw same (d .1, z, omega (arith, firstBad-le n rs));
   }
 
-  pub passes-say : (q : Answer) (t₂ : List ℕ) → (q ≡ r) × (t₂ ≡ filled r rs t₁) → Enters n rs t q t₂
-  unfolding filled cleared
-  passes-say q t₂ e = go q (e .1 ∙ ap (filled r rs) c ∙ ap (λ (a : Answer). filled a rs (cleared a t)) (sym (e .0))) (is-answer ∙ sym (e .0))
+  pub passes-say : (q : Answer) (t₂ : List ℕ) → (q ≡ gathered r rs) × (t₂ ≡ filled r rs t₁) → Enters n rs t q t₂
+  unfolding filled cleared gathered
+  passes-say q t₂ e = go r is-answer (e .0) (e .1 ∙ ap (filled r rs) c)
     where
-      go : (q : Answer) → t₂ ≡ filled q rs (cleared q t) → answered Done Refused (firstRefusal (enterLooks n rs (length t))) (entry n) ≡ q → Enters n rs t q t₂
-      go (Done e) f h =
+      go : (a : Answer) → answered Done Refused (firstRefusal (enterLooks n rs (length t))) (entry n []) ≡ a → q ≡ gathered a rs → t₂ ≡ filled a rs (cleared a t) → Enters n rs t q t₂
+      go (Done e) h w f =
           let d = done-decided n m k (length t) e (sym s ∙ sym is-answer ∙ h) in
           let g : t₂ ≡ fill rs (replicate (length t) 0) = f in
-          is-done (done-pass _ e (entry n) h .0) (d .0)
-          (g ∙ ap (λ (j : ℕ). fill rs (replicate j 0)) (d .2) ∙ fill-table n rs (omega (arith, d .3, firstBad-le n rs)))
-      go (Refused x) f h = let g : t₂ ≡ t = f in rw g (is-refused x (refused-stop (firstRefusal (enterLooks n rs (length t))) x (entry n) h))
+          rw (w ∙ ap (λ (x : Entry). gathered (Done x) rs) (d .0) ∙ gathered-first n rs)
+          (is-done (done-pass _ e (entry n []) h .0) refl (g ∙ ap (λ (j : ℕ). fill rs (replicate j 0)) (d .2) ∙ fill-table n rs (omega (arith, d .3, firstBad-le n rs))))
+      go (Refused x) h w f =
+          let g : t₂ ≡ t = f in
+          let v : q ≡ Refused x = w in
+          rw (g, v) (is-refused x (refused-stop (firstRefusal (enterLooks n rs (length t))) x (entry n []) h))

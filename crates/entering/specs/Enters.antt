@@ -3,13 +3,15 @@
 use mathlib.Core.Bool.{Bool, _&&_, _||_, cond, false, not}
 use mathlib.Core.List.{List, [], _∷_}
 use Prim.Native.Nat.{suc, ℕ}
-use lib.Dec.{ltb}
+use lib.Dec.{eqb, ltb}
 use lib.ListN.{getD, length, replicate}
+use Rattle.sets.specs.Sets.{number}
+use Rattle.sets.specs.Species.{Species}
 use Rattle.tables.specs.Bytes.{enter}
 use Rattle.tables.specs.Filled.{tableFor}
 use Rattle.tables.specs.Index.{C}
 use Rattle.trees.specs.Triplets.{Triplets, both, different, only}
-use Rattle.answers.specs.Answers.{Told, species-count, told, value}
+use Rattle.answers.specs.Answers.{Told, Value, occurring-set, species-count, told, value}
 use Rattle.answers.specs.Looks.{Settled, after, answered, firstRefusal, lookCount, lookTable, refuseIf}
 use Rattle.answers.specs.Refusals.{refusalTold}
 use Rattle.answers.specs.declared.Look.{Look}
@@ -50,6 +52,14 @@ unfoldable pub inRecords : List (List ℕ) → Triplets
 inRecords [] a b c = false
 inRecords (r ∷ rs) a b c = both (only (left r) (right r) (outer r)) (inRecords rs) a b c
 
+-- the species that the records name: the set that occurs. Request T-03: "Listing and entering now also return the set that occurs".
+abbrev pub inRecord : List ℕ → Species
+inRecord r x = eqb (left r) x || (eqb (right r) x || eqb (outer r) x)
+
+unfoldable pub occursIn : List (List ℕ) → Species
+occursIn [] x = false
+occursIn (r ∷ rs) x = inRecord r x || occursIn rs x
+
 -- a table of n species that says nothing
 abbrev pub zeros : ℕ → List ℕ
 zeros n = replicate (C n 3) 0
@@ -58,12 +68,13 @@ zeros n = replicate (C n 3) 0
 abbrev pub decidedLooks : ℕ → ℕ → ℕ → ℕ → List Look
 decidedLooks n m k l = lookCount n ∷ lookTable n l ∷ refuseIf (ltb k m) (BadRecord k) ∷ []
 
--- "entering returns n"
-abbrev pub entry : ℕ → Entry
-entry n = record { n = n }
+-- "entering returns n", and the set that occurs
+abbrev pub entry : ℕ → List (List ℕ) → Entry
+entry n rs = record { n = n; set = number 64 (occursIn rs) }
 
+-- the answer before any record is entered
 unfoldable pub decided : ℕ → ℕ → ℕ → ℕ → Answer
-decided n m k l = answered Done Refused (firstRefusal (decidedLooks n m k l)) (entry n)
+decided n m k l = answered Done Refused (firstRefusal (decidedLooks n m k l)) (entry n [])
 
 -- the same for the records rs
 abbrev pub enterLooks : ℕ → List (List ℕ) → ℕ → List Look
@@ -75,14 +86,17 @@ enterOf n rs = tableFor n (inRecords rs)
 
 -- t is the table before, r the answer, t′ the table after
 abbrev pub Enters : ℕ → List (List ℕ) → List ℕ → Answer → List ℕ → Type 0
-Enters n rs t r t′ = Settled Done Refused (enterLooks n rs (length t)) (entry n) (enterOf n rs) t r t′
+Enters n rs t r t′ = Settled Done Refused (enterLooks n rs (length t)) (entry n rs) (enterOf n rs) t r t′
 
 abbrev pub enterAnswer : ℕ → List (List ℕ) → ℕ → Answer
-enterAnswer n rs l = answered Done Refused (firstRefusal (enterLooks n rs l)) (entry n)
+enterAnswer n rs l = answered Done Refused (firstRefusal (enterLooks n rs l)) (entry n rs)
 
 abbrev pub enterAfter : ℕ → List (List ℕ) → List ℕ → List ℕ
 enterAfter n rs t = after (firstRefusal (enterLooks n rs (length t))) (enterOf n rs) t
 
+abbrev pub entryValues : Entry → List Value
+entryValues e = value species-count (e .n) ∷ value occurring-set (e .set) ∷ []
+
 abbrev pub enterTold : Answer → Told
-enterTold (Done e) = told 0 (value species-count (e .n) ∷ [])
+enterTold (Done e) = told 0 (entryValues e)
 enterTold (Refused x) = refusalTold x

@@ -1,16 +1,19 @@
 // Entering a list of triplets into a table: refusals 2, 7 and 13, in that order, before any byte is written.
 ghost use mathlib.Core.Path.{_≡_};
 ghost use mathlib.Core.Bool.{false};
-ghost use Prim.Native.Nat.{_≤_};
+ghost use mathlib.Core.List.{[], _∷_};
+ghost use Prim.Native.Nat.{_<_, _≤_};
 ghost use lib.ListN.{length};
+ghost use Rattle.sets.specs.Sets.{number, union};
 ghost use Rattle.tables.specs.Bytes.{enter};
 ghost use Rattle.tables.specs.Index.{C};
-ghost use Rattle.entering.specs.Enters.{left, outer, right, bad, badRecord, firstBad, fill, decided, Enters};
+ghost use Rattle.entering.specs.Enters.{left, outer, right, bad, badRecord, firstBad, fill, inRecord, occursIn, decided, Enters};
 ghost use Rattle.entering.specs.Passes.{cleared};
 
-// What is returned with 0.
+// What is returned with 0: of the species, the set that occurs.
 pub struct Entry {
     pub n: usize,
+    pub set: u64,
 }
 
 pub enum Answer {
@@ -52,24 +55,38 @@ fn first_bad(n: usize, records: &[[u8; 3]]) -> usize
     i
 }
 
-// Enters one record, which is not bad.
-fn put_record(table: &mut [u8], n: usize, r: [u8; 3])
-    requires { ⌜ (n ≤ 64) × (length (now table) ≡ C n 3) × (badRecord n r ≡ false) ⌝ }
-    ensures { λ _. ⌜ now (table .exit) ≡ enter (now (table .entry)) (left r) (right r) (outer r) ⌝ }
+// A set, and three species with it.
+pub fn gather(s: u64, a: usize, b: usize, c: usize) -> u64
+    requires { ⌜ (a < 64) × (b < 64) × (c < 64) ⌝ }
+    ensures { λ r. ⌜ r ≡ union s (number 64 (inRecord (a ∷ (b ∷ (c ∷ []))))) ⌝ }
 {
-    tables::put(table, r[0] as usize, r[1] as usize, r[2] as usize);
+    sets::with(sets::with(sets::with(s, a), b), c)
 }
 
-// Enters all records, of which none is bad.
-fn fill(n: usize, records: &[[u8; 3]], table: &mut [u8])
-    requires { ⌜ (n ≤ 64) × (length (now table) ≡ C n 3) × (firstBad n (now records) ≡ length (now records)) ⌝ }
-    ensures { λ r. ⌜ now (table .exit) ≡ fill (now (records .entry)) (now (table .entry)) ⌝ }
+// Enters one record, which is not bad, and gathers its species.
+fn put_record(table: &mut [u8], n: usize, s: u64, r: [u8; 3]) -> u64
+    requires { ⌜ (n ≤ 64) × (length (now table) ≡ C n 3) × (badRecord n r ≡ false) ⌝ }
+    ensures { λ q. ⌜ (q ≡ union s (number 64 (inRecord r))) × (now (table .exit) ≡ enter (now (table .entry)) (left r) (right r) (outer r)) ⌝ }
 {
+    let a = r[0] as usize;
+    let b = r[1] as usize;
+    let c = r[2] as usize;
+    tables::put(table, a, b, c);
+    gather(s, a, b, c)
+}
+
+// Enters all records, of which none is bad, and gathers their species.
+fn fill(n: usize, s: u64, records: &[[u8; 3]], table: &mut [u8]) -> u64
+    requires { ⌜ (n ≤ 64) × (length (now table) ≡ C n 3) × (firstBad n (now records) ≡ length (now records)) ⌝ }
+    ensures { λ q. ⌜ (q ≡ union s (number 64 (occursIn (now (records .entry))))) × (now (table .exit) ≡ fill (now (records .entry)) (now (table .entry))) ⌝ }
+{
+    let mut set = s;
     let mut i = 0;
     while i < records.len() {
-        put_record(table, n, records[i]);
+        set = put_record(table, n, set, records[i]);
         i += 1;
     }
+    set
 }
 
 // The answer, where k is the first bad one of m records. Where nothing is refused, the table is cleared.
@@ -90,7 +107,7 @@ pub fn decide(n: usize, m: usize, k: usize, table: &mut [u8]) -> Answer
         return Answer::Refused(answers::Refusal::BadRecord(k));
     }
     tables::clear(table);
-    Answer::Done(Entry { n: n })
+    Answer::Done(Entry { n: n, set: 0 })
 }
 
 // Enters the records into an empty table: whatever the table held is gone. A refusal leaves every byte as it was.
@@ -101,8 +118,8 @@ pub fn enter(n: usize, records: &[[u8; 3]], table: &mut [u8]) -> Answer
     let r = decide(n, records.len(), k, table);
     match r {
         Answer::Done(e) => {
-            fill(e.n, records, table);
-            Answer::Done(e)
+            let set = fill(e.n, e.set, records, table);
+            Answer::Done(Entry { n: e.n, set: set })
         }
         Answer::Refused(y) => Answer::Refused(y),
     }

@@ -62,6 +62,12 @@ fn lay(s: replies::Reply, values: &mut [usize]) -> usize
             put(values, 1, y);
             k
         }
+        replies::Reply::Three(k, x, y, z) => {
+            put(values, 0, x);
+            put(values, 1, y);
+            put(values, 2, z);
+            k
+        }
         replies::Reply::Broken(x) => {
             let fault = x.fault;
             let f = fault_code(fault);
@@ -122,18 +128,19 @@ pub extern "C" fn koodhaxil_order(
     lay(replies::order(a), values)
 }
 
-// Builds the tree of the table t, to the front of the room. A refusal leaves every byte of the room as it was.
+// Builds the tree of a set of species, of the table t, to the front of the room. A refusal leaves every byte of the room as it was.
 #[no_mangle]
 pub extern "C" fn koodhaxil_build(
     n: usize,
+    set: u64,
     t: &[u8],
     room: &mut [u8],
     values: &mut [usize],
 ) -> usize
-    ensures { λ r. ⌜ Handed (buildTold (buildAnswer n (now (t .entry)) (length (now (room .entry))))) (now (values .entry)) r (now (values .exit)) ⌝ }
-    ensures { λ _. ⌜ now (room .exit) ≡ buildAfter n (now (t .entry)) (now (room .entry)) ⌝ }
+    ensures { λ r. ⌜ Handed (buildTold (buildAnswer n set (now (t .entry)) (length (now (room .entry))))) (now (values .entry)) r (now (values .exit)) ⌝ }
+    ensures { λ _. ⌜ now (room .exit) ≡ buildAfter n set (now (t .entry)) (now (room .entry)) ⌝ }
 {
-    let a = building::build(n, t, room);
+    let a = building::build(n, set, t, room);
     lay(replies::build(a), values)
 }
 

@@ -41,4 +41,5 @@ pub reply-few : (s : S.Reply) → length (plainText (replied s)) ≤ 91
 reply-few (S.the-variants.Bare k) = omega (arith, length-append (decimal k) (spaced []), decimal-few k)
 reply-few (S.the-variants.One k x) = omega (arith, length-append (decimal k) (spaced (x ∷ [])), decimal-few k, spaced-few (x ∷ []))
 reply-few (S.the-variants.Two k x y) = omega (arith, length-append (decimal k) (spaced (x ∷ y ∷ [])), decimal-few k, spaced-few (x ∷ y ∷ []))
+reply-few (S.the-variants.Three k x y z) = omega (arith, length-append (decimal k) (spaced (x ∷ y ∷ z ∷ [])), decimal-few k, spaced-few (x ∷ y ∷ z ∷ []))
 reply-few (S.the-variants.Broken x) = broken-few x

@@ -57,7 +57,7 @@ toldText t = plainText (plain t)
 abbrev pub barred : List ℕ → List ℕ
 barred l = 32 ∷ 124 ∷ spaced l
 
--- ---- the lines: b is a collection, t a table, w a text and o a room as they are before the call
+-- ---- the lines: b is a collection, t a table, s a set, w a text and o a room as they are before the call
 
 unfoldable pub readLine : List ℕ → List ℕ
 readLine b = ended (toldText (readTold (readAnswer b)))
@@ -71,8 +71,8 @@ enterLine n records t = ended (toldText (enterTold (enterAnswer n records (lengt
 unfoldable pub orderLine : ℕ → List ℕ → List ℕ → List ℕ
 orderLine n body o = ended (toldText (orderTold (orderAnswer n body (length o))) ++ barred (orderAfter n body o))
 
-unfoldable pub buildLine : ℕ → List ℕ → List ℕ → List ℕ
-buildLine n t o = ended (toldText (buildTold (buildAnswer n t (length o))) ++ barred (buildAfter n t o))
+unfoldable pub buildLine : ℕ → ℕ → List ℕ → List ℕ → List ℕ
+buildLine n s t o = ended (toldText (buildTold (buildAnswer n s t (length o))) ++ barred (buildAfter n s t o))
 
 unfoldable pub parseLine : ℕ → List ℕ → List ℕ → List ℕ
 parseLine n w o = ended (toldText (parseTold (parseAnswer n w (length o))) ++ barred (parseAfter n w o))

@@ -66,6 +66,12 @@ fn put_reply(out: &mut [u8], at: usize, s: replies::Reply) -> usize
             let b = writing::put_spaced(out, a, x as u64);
             writing::put_spaced(out, b, y as u64)
         }
+        replies::Reply::Three(k, x, y, z) => {
+            let a = writing::put_decimal(out, at, k as u64);
+            let b = writing::put_spaced(out, a, x as u64);
+            let c = writing::put_spaced(out, b, y as u64);
+            writing::put_spaced(out, c, z as u64)
+        }
         replies::Reply::Broken(x) => put_broken(out, at, x),
     }
 }
@@ -128,13 +134,13 @@ pub fn order_line(out: &mut [u8], at: usize, n: usize, body: &[u8], room: &mut [
     put_barred(out, at, replies::order(a), room)
 }
 
-// Builds the tree of the table t, and writes the line of the call.
-pub fn build_line(out: &mut [u8], at: usize, n: usize, t: &[u8], room: &mut [u8]) -> usize
+// Builds the tree of a set of species, of the table t, and writes the line of the call.
+pub fn build_line(out: &mut [u8], at: usize, n: usize, set: u64, t: &[u8], room: &mut [u8]) -> usize
     requires { ⌜ at + 4 * length (now room) + 100 ≤ length (now out) ⌝ }
-    ensures { λ r. ⌜ Writes (now (out .entry)) at (buildLine n (now (t .entry)) (now (room .entry))) (now (out .exit)) r ⌝ }
-    ensures { λ _. ⌜ now (room .exit) ≡ buildAfter n (now (t .entry)) (now (room .entry)) ⌝ }
+    ensures { λ r. ⌜ Writes (now (out .entry)) at (buildLine n set (now (t .entry)) (now (room .entry))) (now (out .exit)) r ⌝ }
+    ensures { λ _. ⌜ now (room .exit) ≡ buildAfter n set (now (t .entry)) (now (room .entry)) ⌝ }
 {
-    let a = building::build(n, t, room);
+    let a = building::build(n, set, t, room);
     put_barred(out, at, replies::build(a), room)
 }
 

@@ -1,15 +1,15 @@
 -- A collection: its bodies, and the table after each tree. Assumes nothing.
 use mathlib.Core.Bool.{false}
 use mathlib.Core.List.{List}
-use mathlib.Core.Path.{_≡_, refl}
-use Prim.Native.Nat.{_+_, _-_, _<_, _≤_, suc, ℕ}
+use mathlib.Core.Path.{_≡_}
+use Prim.Native.Nat.{_<_, _≤_, suc, ℕ}
 use native.Mathlib.Omega.{arith}
-use lib.ListN.{drop, length, take}
+use lib.ListN.{length}
 use Rattle.bodies.specs.Draws.{treeOf}
 use Rattle.bodies.specs.Nodes.{Good, badLength, nodes}
 use Rattle.collections.proofs.Whole.{whole-long}
 use Rattle.collections.specs.Collection.{Collection}
-use Rattle.collections.specs.Layout.{bodyAt, lengthAt, species, start, trees}
+use Rattle.collections.specs.Layout.{bodyAt, species, start, trees}
 use Rattle.tables.proofs.Adding.{adds-both, adds-nothing}
 use Rattle.tables.specs.Adds.{Adds}
 use Rattle.tables.specs.Filled.{byteFor, treeByte}
@@ -30,14 +30,6 @@ module _ (b : List ℕ) (r : Collection b) where
     body-long = whole-long b r k h
 
     -- the bytes that the code hands on
-    pub part-in : start b k + 2 ≤ start b (suc k)
-    unfolding start
-    part-in = omega arith
-
-    pub part-is : (s e : ℕ) → s ≡ start b k + 2 → e ≡ start b (suc k) → take (e - s) (drop s b) ≡ bodyAt b k
-    unfolding start
-    part-is s e p q = let d : e - s ≡ lengthAt b (start b k) = omega arith in rw (d, p) refl
-
     pub part-good : (n : ℕ) (u : List ℕ) → n ≡ species b → u ≡ bodyAt b k → (n ≤ 64) × Good n (nodes u) × (badLength (length u) ≡ false)
     part-good n u e q = rw (e, q) (r .most, body-good, body-long)
 

@@ -26,7 +26,7 @@ listOf b = tableFor (species b) (heldUpTo b (trees b))
 abbrev pub listLooks : List ℕ → ℕ → List Look
 listLooks b l = readLooks b ++ (lookTable (species b) l ∷ [])
 
--- "list: n and tree count"; "On 0, listing and entering fill the whole table": t is the table before, r the answer, t′ the table after
+-- "list: n and tree count"; request T-03: "also .. the set that occurs"; "On 0, listing and entering fill the whole table": t is the table before, r the answer, t′ the table after
 abbrev pub Lists : List ℕ → List ℕ → Answer → List ℕ → Type 0
 Lists b t r t′ = Settled Done Refused (listLooks b (length t)) (countsOf b) (listOf b) t r t′
 

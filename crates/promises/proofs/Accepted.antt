@@ -9,6 +9,7 @@ use borrow.Author.Tests.{le-ltb, ltb-false}
 use lib.Dec.{eqb, ltb}
 use lib.ListN.{getD, length}
 use Rattle.trees.proofs.Triplets.{different-e, different-i}
+use Rattle.sets.specs.Sets.{size}
 use Rattle.tables.specs.Bytes.{over, wrongByte, wrongLength}
 use Rattle.tables.specs.Index.{C}
 use Rattle.bodies.specs.Draws.{treeOf}
@@ -25,7 +26,7 @@ use Rattle.answers.specs.Refusals.{refusalTold}
 use Rattle.answers.specs.declared.Look.{Look}
 use Rattle.answers.specs.declared.Look.the-variants.{Pass, Refuse}
 use Rattle.answers.specs.declared.Refusal.{Refusal}
-use Rattle.answers.specs.declared.Refusal.the-variants.{BadByte, BadCounts, BadLength, BadRecord, BadTable, BadTree, Contradicted, ShortRoom, Unforced}
+use Rattle.answers.specs.declared.Refusal.the-variants.{BadByte, BadCounts, BadLength, BadRecord, BadSet, BadTable, BadTree, Contradicted, Outside, ShortRoom, Unforced}
 use Rattle.answers.specs.declared.Contradiction.{Contradiction}
 use Rattle.collections.proofs.Whole.{read-pass}
 use Rattle.collections.specs.Collection.{Collection}
@@ -35,7 +36,9 @@ use Rattle.entering.proofs.Records.{firstBad-le, firstBad-none, good-e, good-i,
 use Rattle.entering.specs.Enters.{enterLooks, firstBad}
 use Rattle.listing.specs.Lists.{listLooks}
 use Rattle.ordering.specs.Orders.{orderLooks}
+use Rattle.building.proofs.Chosen.{outside-pass, set-pass}
 use Rattle.building.specs.Builds.{inputLooks, lookOutcome, outcome}
+use Rattle.building.specs.GoodSet.{badSet, firstOutside, lookOutside, lookSet}
 use Rattle.checking.specs.Checks.{firstDiffers, firstUnsure, triplesLooks}
 use Rattle.trees.specs.Build.{Outcome, stop, tree}
 use Rattle.trees.specs.Trees.{Tree}
@@ -120,9 +123,9 @@ pub order-pass : (n : ℕ) (b o : List ℕ) → Passed (orderLooks n b (length o
 order-pass n b o = recorded (counted n then (bodied n b then roomed (length b) (length o)))
     (λ p. record { count = p .0; body = p .1 .0; room = p .1 .1 }) (λ g. (g .count, (g .body, g .room)))
 
-pub build-pass : (n : ℕ) (t o : List ℕ) → Passed (inputLooks n t (length o)) (Buildable n t o)
-build-pass n t o = recorded (counted n then (tabled n t then roomed (roomFor n) (length o)))
-    (λ p. record { count = p .0; table = p .1 .0; room = p .1 .1 }) (λ g. (g .count, (g .table, g .room)))
+pub build-pass : (n u : ℕ) (t o : List ℕ) → Passed (inputLooks n u t (length o)) (Buildable n u t o)
+build-pass n u t o = recorded (counted n then (tabled n t then (one-look (lookSet n u) (set-pass n u) then (one-look (lookOutside n u t) (outside-pass n u t) then roomed (roomFor (size u)) (length o)))))
+    (λ p. record { count = p .0; table = p .1 .0; set = p .1 .1 .0; enclosed = p .1 .1 .1 .0; room = p .1 .1 .1 .1 }) (λ g. (g .count, (g .table, (g .set, (g .enclosed, g .room)))))
 
 pub parse-pass : (n : ℕ) (w o : List ℕ) → Passed (parseLooks n w (length o)) (Parsable n w o)
 parse-pass n w o = recorded (counted n then (texted w then (followed n (textBody w) then roomed (length (textBody w)) (length o)))) (λ p.
@@ -165,10 +168,19 @@ rules : (v : Verdict) (x : Refusal) → ruled v ≡ Refuse x → Input x
 rules Fine x e = let z : _≡_ {A = ℕ} 0 1 = cc in absurd (omega arith)
 rules (Breaks y) x e = let z : BadTree y ≡ x = cc in subst Input z refl
 
-build-input : (n : ℕ) (t : List ℕ) (l : ℕ) → Each Input (inputLooks n t l)
-build-input n t l = (
+build-input : (n u : ℕ) (t : List ℕ) (l : ℕ) → Each Input (inputLooks n u t l)
+build-input n u t l = (
   one (wrongCount n) BadCounts refl,
-  (one (wrongLength n (length t)) BadTable refl, (one (wrongByte t) (BadByte (over t)) refl, (one (ltb l (roomFor n)) ShortRoom refl, tt))),
+  (
+    one (wrongLength n (length t)) BadTable refl,
+    (
+      one (wrongByte t) (BadByte (over t)) refl,
+      (
+        one (badSet n u) BadSet refl,
+        (one (ltb (firstOutside n u t) (C n 3)) (Outside (firstOutside n u t)) refl, (one (ltb l (roomFor (size u))) ShortRoom refl, tt)),
+      ),
+    ),
+  ),
 )
 
 check-input : (n : ℕ) (t b : List ℕ) → Each Input (bothLooks n t b)
@@ -232,8 +244,8 @@ accepts L d = record {
   listing = λ b t. zero-good (L .list b t .told) (firstRefusal (listLooks b (length t))) _ (d .listing b t .told-is) (list-pass b t);
   entering = λ n rs t. zero-good (L .enter n rs t .told) (firstRefusal (enterLooks n rs (length t))) _ (d .entering n rs t .told-is) (enter-pass n rs t);
   ordering = λ n b o. zero-good (L .order n b o .told) (firstRefusal (orderLooks n b (length o))) _ (d .ordering n b o .told-is) (order-pass n b o);
-  building = λ n t o. input-good (inputLooks n t (length o)) (lookOutcome (outcome n t) ∷ []) _ (build-input n t (length o)) Ten
-      (λ k q s. ⊎-elim (λ z. z) (λ z. absurd (not-input 10 refl k s z)) q) (ten (outcome n t) _) (L .build n t o .told) (d .building n t o .told-is) (build-pass n t o);
+  building = λ n u t o. input-good (inputLooks n u t (length o)) (lookOutcome (outcome n u t) ∷ []) _ (build-input n u t (length o)) Ten
+      (λ k q s. ⊎-elim (λ z. z) (λ z. absurd (not-input 10 refl k s z)) q) (ten (outcome n u t) _) (L .build n u t o .told) (d .building n u t o .told-is) (build-pass n u t o);
   checking = λ n t b. input-good (bothLooks n t b) (triplesLooks n t (treeOf b)) [] (check-input n t b) Eleven
       (λ k q s. ⊎-elim (λ z. z) (⊎-elim (λ z. absurd (not-input 11 refl k s z)) (λ z. absurd (not-input 12 refl k s z))) q) (eleven (ltb (firstDiffers n t (treeOf b)) (C n 3)) (ltb (firstUnsure n t (treeOf b)) (C n 3)) _ _) (L .check n t b) (d .checking n t b) (check-pass n t b);
   parsing = λ n w o. zero-good (L .parse n w o .told) (firstRefusal (parseLooks n w (length o))) _ (d .parsing n w o .told-is) (parse-pass n w o);

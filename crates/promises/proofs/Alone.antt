@@ -11,16 +11,14 @@ use Rattle.trees.specs.Triplets.{holds}
 use Rattle.tables.specs.Filled.{tableFor}
 use Rattle.tables.specs.Index.{C}
 use Rattle.bodies.specs.Draws.{treeOf}
-use Rattle.bodies.specs.Nodes.{Good, badLength, nodes, roomFor}
+use Rattle.bodies.specs.Nodes.{Good, badLength, nodes}
 use Rattle.collections.specs.Collection.{Collection}
 use Rattle.collections.specs.Layout.{bodyAt, lengthAt, start}
 use Rattle.listing.specs.Lists.{heldUpTo}
 use Rattle.promises.specs.Operations.{Given, lists}
-use Rattle.answers.specs.Inputs.{Body, Count, Table}
-use Rattle.promises.specs.Inputs.{Buildable}
+use Rattle.answers.specs.Inputs.{Body, Count}
 use Rattle.promises.specs.Demand3.{alone, tableOf}
 use Rattle.promises.proofs.Listed.{lists-is}
-use Rattle.promises.proofs.Tabled.{table-good}
 
 module _ (n : ℕ) (b : List ℕ) where
   alone-long : lengthAt (alone n b) (start (alone n b) 0) ≡ length b
@@ -67,7 +65,3 @@ module _ (n : ℕ) (b : List ℕ) where
 
     pub alone-table : (t : List ℕ) → length t ≡ C n 3 → tableOf lists n b t ≡ tableFor n (holds (treeOf b))
     alone-table t l = ap (λ (h : Given). h .after) (lists-is (alone n b) t (record { collection = alone-collection; long = l })) ∙ ap (tableFor n) alone-held
-
-    -- it may be handed to a builder
-    pub alone-buildable : (t o : List ℕ) → length t ≡ C n 3 → roomFor n ≤ length o → Buildable n (tableOf lists n b t) o
-    alone-buildable t o l room = record { count = c; table = subst (Table n) (sym (alone-table t l)) (table-good n (holds (treeOf b))); room = room }

@@ -6,13 +6,13 @@ use mathlib.Core.Logic.{inl, inr}
 use mathlib.Core.Path.{_∙_, _≡_, ap, refl, subst, sym}
 use Prim.Native.Nat.{_≤_, ℕ}
 use native.Mathlib.Omega.{arith}
-use borrow.Author.Tests.{lt-ltb, ltb-true}
 use lib.ListN.{length}
-use Rattle.sets.proofs.Members.{all-below, members-more}
+use Rattle.sets.proofs.Least.{some-member}
+use Rattle.sets.proofs.Members.{members-more}
 use Rattle.sets.proofs.Sizes.{size-members}
-use Rattle.sets.proofs.Tests.{number-is, number-lt}
-use Rattle.sets.specs.Sets.{has, number, size}
-use Rattle.sets.specs.Species.{Below, Inside, Species, below, members}
+use Rattle.sets.proofs.Tests.{number-is, number-lt, true-has}
+use Rattle.sets.specs.Sets.{Has, has, number, size}
+use Rattle.sets.specs.Species.{Below, Inside, Species, members}
 use Rattle.trees.proofs.Theorems.{StoppingSet, build-refuses, built-aho, built-tree, stopping-set}
 use Rattle.trees.specs.Aho.{AhoTree}
 use Rattle.trees.specs.Build.{Outcome, build, stop, tree}
@@ -21,12 +21,14 @@ use Rattle.trees.specs.Links.{JoinedByWalks}
 use Rattle.trees.specs.Trees.{Tree, inHouseOrder, under}
 use Rattle.tables.proofs.Bytes.{entered-proper}
 use Rattle.tables.specs.Bytes.{entered}
-use Rattle.bodies.proofs.Back.{body-back, body-badLength, body-good, body-length, body-room}
+use Rattle.bodies.proofs.Back.{body-back, body-badLength, body-good, body-length, set-room}
 use Rattle.bodies.specs.Draws.{bodyOf, nodeCount, treeOf, written}
 use Rattle.answers.specs.Answers as Answers
 use Rattle.answers.specs.Answers.{node-count, told, value}
 use Rattle.answers.proofs.Answered.{first-on, then-nothing}
 use Rattle.answers.specs.Looks.{firstRefusal}
+use Rattle.building.proofs.Chosen.{set-below, set-small}
+use Rattle.building.proofs.Numbered.{not-empty}
 use Rattle.building.specs.Builds.{buildLooks, inputLooks, lookOutcome, outcome}
 use Rattle.promises.specs.Operations.{Given, builds, gives}
 use Rattle.promises.specs.Inputs.{Buildable}
@@ -34,32 +36,39 @@ use Rattle.promises.specs.Demand2.{BuildsRight, front}
 use Rattle.promises.proofs.Accepted.{build-pass}
 use Rattle.promises.proofs.Wrote.{front-is, wrote}
 
-module _ (n : ℕ) (t o : List ℕ) (g : Buildable n t o) where
+module _ (n s : ℕ) (t o : List ℕ) (g : Buildable n s t o) where
   -- ---- what the build came to, and what is given back
 
-  looked : (r : Outcome) → outcome n t ≡ r → firstRefusal (buildLooks n t (length o)) ≡ lookOutcome r
-  looked r e = first-on (inputLooks n t (length o)) (lookOutcome (outcome n t) ∷ []) (build-pass n t o .1 g) ∙ then-nothing _ ∙ ap lookOutcome e
+  looked : (r : Outcome) → outcome n s t ≡ r → firstRefusal (buildLooks n s t (length o)) ≡ lookOutcome r
+  looked r e = first-on (inputLooks n s t (length o)) (lookOutcome (outcome n s t) ∷ []) (build-pass n s t o .1 g) ∙ then-nothing _ ∙ ap lookOutcome e
 
-  pub builds-tree : (T : Tree) → outcome n t ≡ tree T → builds n t o ≡ gives (told 0 (value node-count (nodeCount T) ∷ [])) (written o (bodyOf T))
+  pub builds-tree : (T : Tree) → outcome n s t ≡ tree T → builds n s t o ≡ gives (told 0 (value node-count (nodeCount T) ∷ [])) (written o (bodyOf T))
   builds-tree T e = rw (looked (tree T) e, e) refl
 
-  pub builds-stop : (U : Species) → outcome n t ≡ stop U → builds n t o ≡ gives (told 10 (value Answers.stopping-set (number 64 U) ∷ [])) o
+  pub builds-stop : (U : Species) → outcome n s t ≡ stop U → builds n s t o ≡ gives (told 10 (value Answers.stopping-set (number 64 U) ∷ [])) o
   builds-stop U e = rw (looked (stop U) e) refl
 
   -- ---- a tree
 
-  zero-in : So (below n 0)
-  zero-in = lt-ltb 0 n (g .count .some)
+  -- some species is in the set
+  abbrev some : (x : ℕ) × Has s x
+  some = some-member s (not-empty s (g .set .some))
 
-  module _ (T : Tree) (e : build (entered t) n (below n) ≡ tree T) where
-    built : HeldBy (entered t) (below n) T × So (inHouseOrder T)
-    built = built-tree (entered t) (entered-proper t) n (below n) (all-below n) 0 zero-in T e
+  in-below : Below n (has s)
+  in-below = set-below n s (g .set)
+
+  some-in : So (has s (some .0))
+  some-in = true-has s (some .0) (some .1)
+
+  module _ (T : Tree) (e : build (entered t) n (has s) ≡ tree T) where
+    built : HeldBy (entered t) (has s) T × So (inHouseOrder T)
+    built = built-tree (entered t) (entered-proper t) n (has s) in-below (some .0) some-in T e
 
     built-below : Below n (under T)
-    built-below x h = ltb-true x n (sym (built .0 .species x) ∙ h)
+    built-below x h = in-below x (sym (built .0 .species x) ∙ h)
 
     fits : length (bodyOf T) ≤ length o
-    fits = omega (arith, g .room, body-room n T (built .0 .formed) built-below)
+    fits = omega (arith, g .room, set-room n s (set-small n s (g .set)) T (built .0 .formed) (built .0 .species))
 
     stands : front (nodeCount T) (written o (bodyOf T)) ≡ bodyOf T
     stands = front-is n (nodeCount T) o (bodyOf T) (body-length T) fits
@@ -67,7 +76,7 @@ module _ (n : ℕ) (t o : List ℕ) (g : Buildable n t o) where
     back : treeOf (front (nodeCount T) (written o (bodyOf T))) ≡ T
     back = ap treeOf stands ∙ body-back n T (built .0 .formed) built-below (g .count .most)
 
-    tree-built : BuildsRight (entered t) n (below n) o (gives (told 0 (value node-count (nodeCount T) ∷ [])) (written o (bodyOf T)))
+    tree-built : BuildsRight (entered t) n (has s) o (gives (told 0 (value node-count (nodeCount T) ∷ [])) (written o (bodyOf T)))
     tree-built = record {
       one-of = inl refl;
       keeps = λ z. record {
@@ -77,8 +86,8 @@ module _ (n : ℕ) (t o : List ℕ) (g : Buildable n t o) where
           good = body-good n T (built .0 .formed) built-below (g .count .most);
           long = body-badLength n T (built .0 .formed) built-below (g .count .most);
         });
-        held = subst (λ (u : Tree). HeldBy (entered t) (below n) u) (sym back) (built .0);
-        aho = subst (λ (u : Tree). AhoTree (entered t) u) (sym back) (built-aho (entered t) (entered-proper t) n (below n) (all-below n) 0 zero-in T e);
+        held = subst (λ (u : Tree). HeldBy (entered t) (has s) u) (sym back) (built .0);
+        aho = subst (λ (u : Tree). AhoTree (entered t) u) (sym back) (built-aho (entered t) (entered-proper t) n (has s) in-below (some .0) some-in T e);
         housed = record { preorder = stands ∙ ap bodyOf (sym back); children = subst (λ (u : Tree). So (inHouseOrder u)) (sym back) (built .1) };
       };
       refuses = ((λ z. absurd (omega (arith, z))), λ no. absurd (no (T, built .0)));
@@ -87,12 +96,12 @@ module _ (n : ℕ) (t o : List ℕ) (g : Buildable n t o) where
 
   -- ---- a set that stops
 
-  module _ (U : Species) (e : build (entered t) n (below n) ≡ stop U) where
-    stops : StoppingSet (entered t) n (below n) U
-    stops = stopping-set (entered t) (entered-proper t) n (below n) (all-below n) 0 zero-in U e
+  module _ (U : Species) (e : build (entered t) n (has s) ≡ stop U) where
+    stops : StoppingSet (entered t) n (has s) U
+    stops = stopping-set (entered t) (entered-proper t) n (has s) in-below (some .0) some-in U e
 
     stops-below : Below n U
-    stops-below x h = all-below n x (stops .inside x h)
+    stops-below x h = in-below x (stops .inside x h)
 
     is : has (number 64 U) ≡ U
     is = number-is 64 U (λ x h. omega (arith, stops-below x h, g .count .most))
@@ -106,24 +115,24 @@ module _ (n : ℕ) (t o : List ℕ) (g : Buildable n t o) where
           ∙ ap length (members-more n 64 U (g .count .most) stops-below),
     )
 
-    stop-built : BuildsRight (entered t) n (below n) o (gives (told 10 (value Answers.stopping-set (number 64 U) ∷ [])) o)
+    stop-built : BuildsRight (entered t) n (has s) o (gives (told 10 (value Answers.stopping-set (number 64 U) ∷ [])) o)
     stop-built = record {
       one-of = inr refl;
       keeps = λ z. absurd (omega (arith, z));
-      refuses = ((λ z. build-refuses (entered t) (entered-proper t) n (below n) (all-below n) 0 zero-in .0 (U, e)), λ no. refl);
+      refuses = ((λ z. build-refuses (entered t) (entered-proper t) n (has s) in-below (some .0) some-in .0 (U, e)), λ no. refl);
       shows = λ z. record {
         set = number 64 U;
         told-is = refl;
-        inside = subst (λ (P : Species). Inside P (below n)) (sym is) (stops .inside);
+        inside = subst (λ (P : Species). Inside P (has s)) (sym is) (stops .inside);
         three = three;
         joined = subst (λ (P : Species). JoinedByWalks (entered t) P) (sym is) (stops .walks);
       };
     }
 
-  pub good-built : BuildsRight (entered t) n (below n) o (builds n t o)
+  pub good-built : BuildsRight (entered t) n (has s) o (builds n s t o)
   unfolding outcome
-  good-built = go (build (entered t) n (below n)) refl
+  good-built = go (build (entered t) n (has s)) refl
     where
-      go : (r : Outcome) → build (entered t) n (below n) ≡ r → BuildsRight (entered t) n (below n) o (builds n t o)
-      go (tree T) e = subst (λ (h : Given). BuildsRight (entered t) n (below n) o h) (sym (builds-tree T e)) (tree-built T e)
-      go (stop U) e = subst (λ (h : Given). BuildsRight (entered t) n (below n) o h) (sym (builds-stop U e)) (stop-built U e)
+      go : (r : Outcome) → build (entered t) n (has s) ≡ r → BuildsRight (entered t) n (has s) o (builds n s t o)
+      go (tree T) e = subst (λ (h : Given). BuildsRight (entered t) n (has s) o h) (sym (builds-tree T e)) (tree-built T e)
+      go (stop U) e = subst (λ (h : Given). BuildsRight (entered t) n (has s) o h) (sym (builds-stop U e)) (stop-built U e)

@@ -1,16 +1,25 @@
 -- `shelf` prints one of document 01's three forms, and no other line. Assumes nothing.
-use mathlib.Core.Bool.{Bool}
+use mathlib.Core.Bool.{Bool, So, false, false≢true, true}
 use mathlib.Core.List.{List, [], _∷_, _++_, append-nil}
-use mathlib.Core.Logic.{inl, inr, ⊎-elim}
+use mathlib.Core.Logic.{_≢_, _⊎_, inl, inr, ⊎-elim}
 use mathlib.Core.Path.{_∙_, _≡_, ap, refl, subst, sym}
 use Prim.Native.Nat.{ℕ, zero, suc, _-_, _≤_}
 use native.Mathlib.Omega.{arith}
-use lib.Dec.{ltb}
+use borrow.Author.Tests.{eqb-false, eqb-true}
+use lib.Dec.{eqb, ltb}
 use lib.ListN.{length, length-replicate, replicate, take}
 use contract.Monad.{fact-mono}
-use Rattle.sets.specs.Species.{below}
+use Rattle.sets.proofs.Least.{some-member}
+use Rattle.sets.proofs.Sizes.{size-le}
+use Rattle.sets.proofs.Tests.{has-empty, number-lt, true-has}
+use Rattle.sets.specs.Sets.{has}
+use Rattle.sets.specs.Species.{Species}
+use Rattle.trees.proofs.Formed.{formed-e}
+use Rattle.trees.proofs.Lowest.{lowest-in}
+use Rattle.trees.specs.Trees.{lowest}
 use Rattle.tables.specs.Bytes.{entered}
 use Rattle.tables.specs.Index.{C}
+use Rattle.bodies.specs.Draws.{treeOf}
 use Rattle.bodies.specs.Faults.{fault}
 use Rattle.bodies.specs.Nodes.{badLength, bodyLength, longest, nodes}
 use Rattle.bodies.specs.declared.Verdict.{Verdict}
@@ -23,11 +32,15 @@ use Rattle.answers.specs.Refusals.{refusalTold}
 use Rattle.answers.specs.declared.Look.{Look}
 use Rattle.answers.specs.declared.Look.the-variants.{Pass, Refuse}
 use Rattle.answers.specs.declared.Refusal.{Refusal}
-use Rattle.answers.specs.declared.Refusal.the-variants.{BadCounts, BadLength, BadTree, BadVersion, EndsEarly, LeftOver}
+use Rattle.answers.specs.declared.Refusal.the-variants.{BadByte, BadCounts, BadLength, BadRecord, BadSet, BadTable, BadText, BadTree, BadVersion, Contradicted, EndsEarly, LeftOver, NoTree, Outside, ShortRoom, Unforced}
 use Rattle.collections.proofs.Whole.{read-pass}
 use Rattle.collections.specs.Collection.{Collection}
 use Rattle.collections.specs.Layout.{bodyAt, lengthAt, noByte, shortBody, shortHeader, shortLength, species, start, trees, wrongCounts, wrongVersion}
-use Rattle.collections.specs.Reads.{looksFrom, readLooks}
+use Rattle.collections.specs.Occurs.{occurring, occursUpTo}
+use Rattle.collections.specs.Reads.{countValues, countsOf, looksFrom, readLooks}
+use Rattle.listing.specs.Lists.{listOf}
+use Rattle.outside.specs.Reaches.{Enclosed}
+use Rattle.building.proofs.Numbered.{not-empty}
 use Rattle.building.specs.Builds.{buildAnswer, buildTold}
 use Rattle.building.specs.declared.Answer as Building
 use Rattle.checking.specs.Checks.{checkAnswer, checkTold}
@@ -35,13 +48,15 @@ use Rattle.checking.specs.declared.Answer as Checking
 use Rattle.replies.specs.Plain.{items, plain}
 use Rattle.shelf_text.specs.Shelf.{bodyText, build-word, builtText, nodeIn, read-word, shelfText, shownNumbers, treeIn}
 use Rattle.shelf_text.specs.Texts.{line}
-use Rattle.promises.specs.Operations.{builds, checks, koodhaxil}
+use Rattle.promises.specs.Operations.{Given, builds, checks, gives, koodhaxil, lists}
 use Rattle.promises.specs.Demand2.{BuildsRight, Keeps, front}
 use Rattle.promises.specs.Inputs.{Buildable}
-use Rattle.promises.specs.Forms.{CheckShown, Forms, ShowsForms, ShowsStop, ShowsTree, ShowsUnread, ValueOr0, shelfRoom, shelfTable}
+use Rattle.promises.specs.Forms.{CheckShown, Forms, ShowsForms, ShowsNobody, ShowsStop, ShowsTree, ShowsUnread, ValueOr0, shelfBuilt, shelfRoom, shelfTable}
+use Rattle.promises.specs.Together.{Taken}
 use Rattle.promises.proofs.Built.{good-built}
 use Rattle.promises.proofs.Checked.{good-checked}
-use Rattle.promises.proofs.Listed.{good-listed, listed-good}
+use Rattle.promises.proofs.Listed.{good-listed, listed-good, lists-is, occurring-has, occurs-some}
+use Rattle.promises.proofs.Occurring.{good-set, occurring-below, occurring-enclosed, occurring-taken}
 use Rattle.promises.proofs.Own.{built-checked}
 
 -- ---- a refusal of reading, in its three numbers
@@ -114,6 +129,25 @@ module _ (b : List ℕ) where
 some : (x : Refusal) → refusalTold x .number ≡ 0 → ⊥
 some x e = let w = number-zero (Refuse x) [] .0 e in let z : _≡_ {A = ℕ} 0 1 = cc in absurd (omega arith)
 
+-- 15 has no value
+fifteen : (x : Refusal) → refusalTold x .number ≡ 15 → refusalTold x ≡ told 15 []
+fifteen BadVersion e = absurd (omega (arith, e))
+fifteen BadCounts e = absurd (omega (arith, e))
+fifteen (EndsEarly k) e = absurd (omega (arith, e))
+fifteen (LeftOver m) e = absurd (omega (arith, e))
+fifteen (BadLength k) e = absurd (omega (arith, e))
+fifteen (BadTree x) e = absurd (omega (arith, e))
+fifteen BadTable e = absurd (omega (arith, e))
+fifteen (BadByte i) e = absurd (omega (arith, e))
+fifteen ShortRoom e = absurd (omega (arith, e))
+fifteen (NoTree u) e = absurd (omega (arith, e))
+fifteen (Contradicted x) e = absurd (omega (arith, e))
+fifteen (Unforced i) e = absurd (omega (arith, e))
+fifteen (BadRecord i) e = absurd (omega (arith, e))
+fifteen (BadText p) e = absurd (omega (arith, e))
+fifteen BadSet e = refl
+fifteen (Outside i) e = absurd (omega (arith, e))
+
 module _ (n : ℕ) (t o : List ℕ) where
   told-tree : (a : Building.Answer) (k : ℕ) → buildTold a ≡ told 0 (value node-count k ∷ []) → builtText n t o a ≡ line build-word (0 ∷ k ∷ []) ++ bodyText n t (take (bodyLength k) o)
   told-tree (Building.the-variants.Done w) k e = let v : value node-count (w .nodes) ∷ [] ≡ value node-count k ∷ [] = ap (λ (r : Told). r .values) e in let z : w .nodes ≡ k = cc in ap (λ (m : ℕ). line build-word (0 ∷ m ∷ []) ++ bodyText n t (take (bodyLength m) o)) z
@@ -122,6 +156,10 @@ module _ (n : ℕ) (t o : List ℕ) where
   told-stop : (a : Building.Answer) (u : ℕ) → buildTold a ≡ told 10 (value stopping-set u ∷ []) → builtText n t o a ≡ line build-word (10 ∷ u ∷ [])
   told-stop (Building.the-variants.Done w) u e = absurd (omega (arith, ap (λ (r : Told). r .number) e))
   told-stop (Building.the-variants.Refused x) u e = append-nil _ ∙ ap (λ (r : Told). line build-word (shownNumbers (plain r))) e
+
+  told-nobody : (a : Building.Answer) → buildTold a .number ≡ 15 → builtText n t o a ≡ line build-word (15 ∷ [])
+  told-nobody (Building.the-variants.Done w) e = absurd (omega (arith, e))
+  told-nobody (Building.the-variants.Refused x) e = append-nil _ ∙ ap (λ (r : Told). line build-word (shownNumbers (plain r))) (fifteen x e)
 
 told-passed : (a : Checking.Answer) → checkTold a .number ≡ 0 → checkTold a ≡ told 0 []
 told-passed Checking.the-variants.Passes e = refl
@@ -148,45 +186,79 @@ module _ (b : List ℕ) (w : Collection b) where
   table : Table n t
   table = listed-good b w (koodhaxil .list b zeros) (good-listed b zeros (record { collection = w; long = length-replicate (C n 3) 0 }))
 
-  buildable : Buildable n t o
-  buildable = record { count = count; table = table; room = omega (arith, length-replicate {A = ℕ} longest 0, w .most) }
+  abbrev u : ℕ
+  u = occurring b
 
-  right : BuildsRight (entered t) n (below n) o (builds n t o)
-  right = good-built n t o buildable
+  listed : lists b zeros ≡ gives (told 0 (countValues (countsOf b))) (listOf b)
+  listed = lists-is b zeros (record { collection = w; long = length-replicate (C n 3) 0 })
 
-  text-is : shelfText b ≡ builtText n t (builds n t o .after) (buildAnswer n t (length o))
+  taken : Taken koodhaxil n u t
+  taken = occurring-taken .listed b zeros u (ap (λ (h : Given). h .told) listed)
+
+  text-is : shelfText b ≡ builtText n t (builds n u t o .after) (buildAnswer n u t (length o))
   unfolding shelfText
   text-is = rw (read-pass b .1 w) refl
 
-  module _ (k : Keeps (entered t) n (below n) o (builds n t o)) where
-    abbrev body : List ℕ
-    body = front (k .count) (builds n t o .after)
+  -- ---- where nothing occurs
 
-    -- nothing entered contradicts the tree, which holds all of it
-    check-shown : CheckShown (checks n t body) (shownNumbers (plain (checks n t body)))
-    check-shown = ⊎-elim
-        (λ z. let e = told-passed (checkAnswer n t body) z in inl (e, ap (λ (r : Told). shownNumbers (plain r)) e))
-        (λ z.
-        let u = good-checked n t body (record { count = count; table = table; body = k .wrote .body }) .unforced z in
-        inr (record { index = u .0; told-is = u .1; shown = ap (λ (r : Told). shownNumbers (plain r)) (u .1) }))
-        (built-checked n (k .count) t o (k .told-is))
+  nobody-shown : u ≡ 0 → ShowsNobody koodhaxil b (shelfText b)
+  nobody-shown e = record {
+    collection = w;
+    nobody = λ x k. false≢true (sym (has-empty x) ∙ ap (λ (s : ℕ). has s x) (sym e) ∙ ap (λ (S : Species). S x) (occurring-has b w) ∙ occurs-some b (trees b) x .1 k);
+    is = text-is ∙ told-nobody n t _ (buildAnswer n u t (length o)) (taken .empty o .1 e);
+  }
 
-    tree-shown : ShowsTree koodhaxil b (shelfText b)
-    tree-shown = record {
-      collection = w;
-      keeps = k;
-      check = shownNumbers (plain (checks n t body));
-      checked = check-shown;
-      is = text-is ∙ told-tree n t _ (buildAnswer n t (length o)) (k .count) (k .told-is);
+  -- ---- where something does
+
+  module _ (some : u ≢ 0) where
+    buildable : Buildable n u t o
+    buildable = record {
+      count = count;
+      table = table;
+      set = good-set n u (occurring-below b w) some;
+      enclosed = subst (Enclosed n u) (sym (ap (λ (h : Given). h .after) listed)) (occurring-enclosed b w);
+      room = omega (arith, length-replicate {A = ℕ} longest 0, size-le 64 u (number-lt 64 (occursUpTo b (trees b))));
     }
 
-  stop-shown : builds n t o .told .number ≡ 10 → ShowsStop koodhaxil b (shelfText b)
-  stop-shown z =
-      let s = right .shows z in
-      record { collection = w; no-tree = right .refuses .0 z; stops = s; is = text-is ∙ told-stop n t _ (buildAnswer n t (length o)) (s .set) (s .told-is) }
+    right : BuildsRight (entered t) n (has u) o (builds n u t o)
+    right = good-built n u t o buildable
+
+    module _ (k : Keeps (entered t) n (has u) o (builds n u t o)) where
+      abbrev body : List ℕ
+      body = front (k .count) (builds n u t o .after)
+
+      -- nothing entered contradicts the tree, which holds all of it
+      check-shown : CheckShown (checks n t body) (shownNumbers (plain (checks n t body)))
+      check-shown = ⊎-elim
+          (λ z. let e = told-passed (checkAnswer n t body) z in inl (e, ap (λ (r : Told). shownNumbers (plain r)) e))
+          (λ z.
+          let f = good-checked n t body (record { count = count; table = table; body = k .wrote .body }) .unforced z in
+          inr (record { index = f .0; told-is = f .1; shown = ap (λ (r : Told). shownNumbers (plain r)) (f .1) }))
+          (built-checked n u (k .count) t o (k .told-is))
+
+      tree-shown : ShowsTree koodhaxil b (shelfText b)
+      tree-shown = record {
+        collection = w;
+        keeps = k;
+        check = shownNumbers (plain (checks n t body));
+        checked = check-shown;
+        is = text-is ∙ told-tree n t _ (buildAnswer n u t (length o)) (k .count) (k .told-is);
+      }
+
+    stop-shown : builds n u t o .told .number ≡ 10 → ShowsStop koodhaxil b (shelfText b)
+    stop-shown z =
+        let s = right .shows z in
+        record { collection = w; no-tree = right .refuses .0 z; stops = s; is = text-is ∙ told-stop n t _ (buildAnswer n u t (length o)) (s .set) (s .told-is) }
+
+    some-shown : ShowsStop koodhaxil b (shelfText b) ⊎ ShowsTree koodhaxil b (shelfText b)
+    some-shown = ⊎-elim (λ z. inr (tree-shown (right .keeps z))) (λ z. inl (stop-shown z)) (right .one-of)
 
   collection-shown : Forms koodhaxil b (shelfText b)
-  collection-shown = ⊎-elim (λ z. inr (inr (tree-shown (right .keeps z)))) (λ z. inr (inl (stop-shown z))) (right .one-of)
+  collection-shown = go (eqb u 0) refl
+    where
+      go : (p : Bool) → eqb u 0 ≡ p → Forms koodhaxil b (shelfText b)
+      go true e = inr (inl (nobody-shown (eqb-true u 0 e)))
+      go false e = inr (inr (some-shown (eqb-false u 0 e)))
 
 -- ---- what is no collection
 
@@ -208,6 +280,23 @@ unread-shown b x e =
       is = text ∙ ap (λ (t : Told). line read-word (t .number ∷ y ∷ z ∷ [])) (sym q);
     }
 
+-- ---- no two forms of one collection
+
+-- where a species occurs, that is not the form of nobody
+nobody-has : (b x : List ℕ) → ShowsNobody koodhaxil b x → (v : ℕ) → So (has (occurring b) v) → ⊥
+nobody-has b x p v h = p .nobody v (occurs-some b (trees b) v .0 (ap (λ (S : Species). S v) (sym (occurring-has b (p .collection))) ∙ h))
+
+nobody-stops : (b x y : List ℕ) → ShowsNobody koodhaxil b x → ShowsStop koodhaxil b y → ⊥
+nobody-stops b x y p q =
+    let m = some-member (q .stops .set) (not-empty (q .stops .set) (omega (arith, q .stops .three))) in
+    nobody-has b x p (m .0) (q .stops .inside (m .0) (true-has (q .stops .set) (m .0) (m .1)))
+
+nobody-tree : (b x y : List ℕ) → ShowsNobody koodhaxil b x → ShowsTree koodhaxil b y → ⊥
+nobody-tree b x y p q =
+    let h = q .keeps .held in
+    let T = treeOf (front (q .keeps .count) (shelfBuilt koodhaxil b .after)) in
+    nobody-has b x p (lowest T) (sym (h .species (lowest T)) ∙ lowest-in T (formed-e T (h .formed)))
+
 pub forms : (b : List ℕ) → Forms koodhaxil b (shelfText b)
 forms b = go (firstRefusal (readLooks b)) refl
   where
@@ -218,6 +307,7 @@ forms b = go (firstRefusal (readLooks b)) refl
 pub shows-forms : ShowsForms koodhaxil
 shows-forms = record {
   one-of = λ M 𝓤 H A mem run κs a g r s. fact-mono 𝓤 _ _ (λ h. subst (Forms koodhaxil (a .0 .now)) (sym (h .0)) (forms (a .0 .now)));
-  unread-alone = λ b x y p q. ⊎-elim (λ s. p .unread (s .collection)) (λ s. p .unread (s .collection)) q;
+  unread-alone = λ b x y p q. ⊎-elim (λ s. p .unread (s .collection)) (⊎-elim (λ s. p .unread (s .collection)) (λ s. p .unread (s .collection))) q;
+  nobody-alone = λ b x y p q. ⊎-elim (nobody-stops b x y p) (nobody-tree b x y p) q;
   stop-alone = λ b x y p q. p .no-tree (_, q .keeps .held);
 }

@@ -9,6 +9,7 @@ pub mod Ordered
 pub mod Parsed
 pub mod Rendered
 pub mod Built
+pub mod Everyone
 pub mod Alone
 pub mod Rebuilt
 pub mod Promises
@@ -18,5 +19,6 @@ pub mod Useless
 pub mod UselessTexts
 pub mod Runs
 pub mod Own
+pub mod Occurring
 pub mod Ties
 pub mod Forms

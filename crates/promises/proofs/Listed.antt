@@ -1,6 +1,6 @@
 -- Listing a good collection: the table says what some tree of it holds, and nothing else. Assumes nothing.
 use mathlib.Core.Bool.{Bool, So, false≢true}
-use mathlib.Core.List.{List, [], _∷_}
+use mathlib.Core.List.{List}
 use mathlib.Core.Logic.{_↔_}
 use mathlib.Core.Path.{_∙_, _≡_, ap, refl, subst, sym}
 use Prim.Native.Nat.{_<_, suc, zero, ℕ}
@@ -9,6 +9,10 @@ use borrow.Author.Tests.{eqb-true}
 use lib.Dec.{eqb}
 use Rattle.sets.proofs.Bools.{ne-e, or-case, or-l, or-r, test}
 use Rattle.trees.proofs.Splits.{holds-e, holds-proper}
+use Rattle.sets.proofs.Tests.{number-is}
+use Rattle.sets.specs.Sets.{has}
+use Rattle.sets.specs.Species.{Below, Species}
+use Rattle.trees.specs.Trees.{under}
 use Rattle.trees.specs.Triplets.{Proper, holds}
 use Rattle.tables.proofs.Telling.{table-tells, told-as, told-is}
 use Rattle.tables.specs.Bytes.{entered}
@@ -16,15 +20,17 @@ use Rattle.bodies.proofs.Drawn.{tree-below}
 use Rattle.bodies.proofs.Rules.{length-good}
 use Rattle.bodies.specs.Draws.{treeOf}
 use Rattle.bodies.specs.Nodes.{nodes}
-use Rattle.answers.specs.Answers.{species-count, told, tree-count, value}
+use Rattle.answers.specs.Answers.{told}
 use Rattle.answers.specs.Inputs.{Table}
-use Rattle.collections.proofs.Whole.{whole-long}
+use Rattle.collections.proofs.Whole.{read-pass, whole-long}
 use Rattle.collections.specs.Collection.{Collection}
 use Rattle.collections.specs.Layout.{bodyAt, species, trees}
+use Rattle.collections.specs.Occurs.{occurring, occursUpTo}
+use Rattle.collections.specs.Reads.{countValues, countsOf}
 use Rattle.listing.specs.Lists.{listOf, heldUpTo}
-use Rattle.promises.specs.Operations.{Given, gives, lists}
+use Rattle.promises.specs.Operations.{Given, gives, lists, reads}
 use Rattle.promises.specs.Inputs.{Listable}
-use Rattle.promises.specs.Demand2.{ListsRight, SomeTreeHolds}
+use Rattle.promises.specs.Demand2.{IsSet, ListsRight, ReadsRight, SomeTreeHas, SomeTreeHolds}
 use Rattle.promises.proofs.Accepted.{list-pass}
 use Rattle.promises.proofs.Tabled.{Within, table-exact, table-good}
 
@@ -48,18 +54,47 @@ held-proper b m =
       third = λ x y z h. let r = held-some b m x y z .0 h in holds-proper (treeOf (bodyAt b (r .0))) .third x y z (r .2);
     }
 
+-- what occurs in the first m trees is under the root of some of them
+pub occurs-some : (b : List ℕ) (m x : ℕ) → So (occursUpTo b m x) ↔ ((k : ℕ) × (k < m) × So (under (treeOf (bodyAt b k)) x))
+unfolding occursUpTo
+occurs-some b zero x = ((λ h. absurd (false≢true h)), λ r. absurd (omega (arith, r .1)))
+occurs-some b (suc m) x =
+    let ih = occurs-some b m x in (
+      (λ h. or-case (occursUpTo b m x) (under (treeOf (bodyAt b m)) x) h (λ p. let r = ih .0 p in (r .0, omega (arith, r .1), r .2)) (λ p. (m, omega arith, p))),
+      λ r. test (eqb (r .0) m)
+          (λ e. or-r (occursUpTo b m x) _ (subst (λ (k : ℕ). So (under (treeOf (bodyAt b k)) x)) (eqb-true (r .0) m e) (r .2)))
+          (λ e. let n = ne-e (r .0) m e in or-l (occursUpTo b m x) _ (ih .1 (r .0, omega (arith, n, r .1), r .2))),
+    )
+
+module _ (b : List ℕ) (w : Collection b) where
+  -- only species of the collection do
+  pub occurs-below : Below (species b) (occursUpTo b (trees b))
+  occurs-below x h =
+      let r = occurs-some b (trees b) x .0 h in
+      tree-below (species b) (nodes (bodyAt b (r .0))) (w .good (r .0) (r .1)) (length-good (bodyAt b (r .0)) (whole-long b w (r .0) (r .1)) .0) x (r .2)
+
+  pub occurring-has : has (occurring b) ≡ occursUpTo b (trees b)
+  occurring-has = number-is 64 (occursUpTo b (trees b)) (λ x h. omega (arith, occurs-below x h, w .most))
+
+  occurring-is : IsSet (occurring b) (SomeTreeHas b)
+  occurring-is x = subst (λ (S : Species). So (S x) ↔ SomeTreeHas b x) (sym occurring-has) (occurs-some b (trees b) x)
+
+  -- what reading tells of a collection
+  pub good-read : ReadsRight b (reads b)
+  good-read = subst (ReadsRight b) (sym (rw (read-pass b .1 w) refl)) (record { set = occurring b; told-is = refl; occurs = occurring-is })
+
 module _ (b t : List ℕ) (g : Listable b t) where
-  pub lists-is : lists b t ≡ gives (told 0 (value species-count (species b) ∷ value tree-count (trees b) ∷ [])) (listOf b)
+  pub lists-is : lists b t ≡ gives (told 0 (countValues (countsOf b))) (listOf b)
   lists-is = rw (list-pass b t .1 g) refl
 
   pub good-listed : ListsRight b (lists b t)
   good-listed = subst (λ (h : Given). ListsRight b h) (sym lists-is) (record {
-    told-is = refl;
+    reads = record { set = occurring b; told-is = refl; occurs = occurring-is b (g .collection) };
     table = told-as (species b) (listOf b) (held-some b (trees b)) (table-tells (species b) (heldUpTo b (trees b)));
   })
 
 module _ (b : List ℕ) (w : Collection b) where
-  held-within : Within (species b) (heldUpTo b (trees b))
+  pub held-within : Within (species b) (heldUpTo b (trees b))
   held-within x y z h =
       let r = held-some b (trees b) x y z .0 h in
       let v = nodes (bodyAt b (r .0)) in

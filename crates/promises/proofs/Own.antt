@@ -5,7 +5,8 @@ use mathlib.Core.Logic.{inl, inr, ⊎-elim}
 use mathlib.Core.Path.{_∙_, ap, subst, sym}
 use Prim.Native.Nat.{ℕ}
 use Rattle.sets.proofs.Bools.{and-l, and-r, not-e, or-case}
-use Rattle.sets.specs.Species.{Species, below}
+use Rattle.sets.specs.Sets.{has}
+use Rattle.sets.specs.Species.{Species}
 use Rattle.trees.proofs.Agreement.{R-in}
 use Rattle.trees.specs.Check.{R, differs}
 use Rattle.trees.specs.Held.{HeldBy}
@@ -36,14 +37,14 @@ module _ (E : Triplets) (pr : Proper E) (S : Species) (T : Tree) (h : HeldBy E S
       (λ k. or-case (differs E T a c b) (differs E T b c a) k (held-agrees a c b) (held-agrees b c a))
 
 pub built-checked : BuiltChecked koodhaxil
-built-checked n m t o e =
+built-checked n s m t o e =
     let z = ap (λ (r : Told). r .number) e in
-    let g = accepted .building n t o .0 (inl z) in
-    let k = demand2 .building n t o g .keeps z in
+    let g = accepted .building n s t o .0 (inl z) in
+    let k = demand2 .building n s t o g .keeps z in
     let is = value-is (k .count) m (sym (k .told-is) ∙ e) in
-    let w = subst (λ (j : ℕ). Body n (front j (builds n t o .after))) is (k .wrote .body) in
-    let h = subst (λ (j : ℕ). HeldBy (entered t) (below n) (treeOf (front j (builds n t o .after)))) is (k .held) in
-    let r = demand2 .checking n t (front m (builds n t o .after)) (record { count = g .count; table = g .table; body = w }) in
+    let w = subst (λ (j : ℕ). Body n (front j (builds n s t o .after))) is (k .wrote .body) in
+    let h = subst (λ (j : ℕ). HeldBy (entered t) (has s) (treeOf (front j (builds n s t o .after)))) is (k .held) in
+    let r = demand2 .checking n t (front m (builds n s t o .after)) (record { count = g .count; table = g .table; body = w }) in
     ⊎-elim inl (⊎-elim
-    (λ c. let f = r .contradicted c .2 in absurd (held-contradicts (entered t) (entered-proper t) (below n) _ h (f .low) (f .mid) (f .high) (f .here)))
+    (λ c. let f = r .contradicted c .2 in absurd (held-contradicts (entered t) (entered-proper t) (has s) _ h (f .low) (f .mid) (f .high) (f .here)))
     inr) (r .one-of)

@@ -31,7 +31,7 @@ use Rattle.promises.proofs.Built.{good-built}
 use Rattle.promises.proofs.Checked.{check-told, good-checked}
 use Rattle.promises.proofs.Chosen.{chosen}
 use Rattle.promises.proofs.Entered.{good-entered}
-use Rattle.promises.proofs.Listed.{good-listed}
+use Rattle.promises.proofs.Listed.{good-listed, good-read}
 use Rattle.promises.proofs.Ordered.{good-ordered}
 use Rattle.promises.proofs.Parsed.{good-parsed}
 use Rattle.promises.proofs.Rebuilt.{full-known, full-rebuilt}
@@ -42,9 +42,9 @@ pub demand1 : Demand1 koodhaxil
 demand1 = record {
   reading = λ b. told-first readTold Reading.the-variants.Done Reading.the-variants.Refused (countsOf b) refl (λ x. refl) (firstRefusal (readLooks b));
   listing = λ b t. chosen readTold Reading.the-variants.Done Reading.the-variants.Refused (countsOf b) refl (λ x. refl) (listLooks b (length t)) _ t;
-  entering = λ n rs t. chosen enterTold Entering.the-variants.Done Entering.the-variants.Refused (entry n) refl (λ x. refl) (enterLooks n rs (length t)) _ t;
+  entering = λ n rs t. chosen enterTold Entering.the-variants.Done Entering.the-variants.Refused (entry n rs) refl (λ x. refl) (enterLooks n rs (length t)) _ t;
   ordering = λ n b o. chosen orderTold Ordering.the-variants.Done Ordering.the-variants.Refused (record { nodes = nodes b .count }) refl (λ x. refl) (orderLooks n b (length o)) _ o;
-  building = λ n t o. chosen buildTold Building.the-variants.Done Building.the-variants.Refused (record { nodes = nodesIn (outcome n t) }) refl (λ x. refl) (buildLooks n t (length o)) _ o;
+  building = λ n s t o. chosen buildTold Building.the-variants.Done Building.the-variants.Refused (record { nodes = nodesIn (outcome n s t) }) refl (λ x. refl) (buildLooks n s t (length o)) _ o;
   checking = λ n t b. check-told (firstRefusal (checkLooks n t b));
   parsing = λ n w o. chosen parseTold Parsing.the-variants.Done Parsing.the-variants.Refused (parseDone w) refl (λ x. refl) (parseLooks n w (length o)) _ o;
   rendering = λ n b o. chosen renderTold Rendering.the-variants.Done Rendering.the-variants.Refused (renderDone b) refl (λ x. refl) (renderLooks n b (length o)) _ o;
@@ -54,11 +54,11 @@ demand1 = record {
 pub accepted : Accepts koodhaxil
 accepted = accepts koodhaxil demand1
 
--- Reading answers 0 for collections alone; the table has the bits of all trees, or of all records, and no others; house order keeps the groups; the builder gives Aho's tree, which holds every
+-- Reading answers 0 for collections alone, with the set that occurs; the table has the bits of all trees, or of all records, and no others; house order keeps the groups; the builder gives Aho's tree, which holds every
 -- triplet entered, and refuses exactly when no tree does; the check passes a tree exactly when nothing contradicts it and each of its triplets is forced.
 pub demand2 : Demand2 koodhaxil
 demand2 = record {
-  reading = accepted .reading;
+  reading = λ b. (accepted .reading b, good-read b);
   listing = good-listed;
   entering = good-entered;
   ordering = good-ordered;
@@ -70,7 +70,7 @@ demand2 = record {
 pub demand3 : Demand3 koodhaxil
 demand3 = record {
   known = full-known;
-  rebuilt = λ n b t o c f l room. full-rebuilt n b c f o room t l;
+  rebuilt = λ n s b t o c f l room. full-rebuilt n s b c f o room t l;
 }
 
 -- All three, of one and the same operations.

@@ -1,42 +1,65 @@
--- Listing loses nothing: a good tree with every species is known by its table, and the builder gives it back in house order. Assumes nothing.
-use mathlib.Core.Bool.{So}
+-- Listing loses nothing: a good tree with exactly the species of a set is known by its table, and the builder, handed that set, gives it back in house order.
+-- Assumes nothing.
+use mathlib.Core.Bool.{So, false≢true}
 use mathlib.Core.List.{List}
-use mathlib.Core.Logic.{_↔_}
-use mathlib.Core.Path.{_∙_, _≡_, refl, subst, sym}
+use mathlib.Core.Logic.{_↔_, _≢_}
+use mathlib.Core.Path.{_∙_, _≡_, ap, refl, subst, sym}
 use Prim.Native.Nat.{_≤_, ℕ}
 use native.Mathlib.Omega.{arith}
-use borrow.Author.Tests.{ltb-true}
 use lib.ListN.{length}
-use Rattle.sets.proofs.Members.{all-below}
-use Rattle.sets.specs.Species.{Below, below}
+use Rattle.sets.proofs.Sizes.{size-zero}
+use Rattle.sets.proofs.Tests.{has-empty, true-has}
+use Rattle.sets.specs.Sets.{has, size}
+use Rattle.sets.specs.Species.{Below}
+use Rattle.trees.proofs.Formed.{formed-e}
+use Rattle.trees.proofs.Lowest.{lowest-in}
 use Rattle.trees.proofs.Splits.{holds-e, holds-proper}
 use Rattle.trees.proofs.Theorems.{rebuild}
 use Rattle.trees.specs.Build.{tree}
-use Rattle.trees.specs.Trees.{SameGroups, house, under, wellFormed}
+use Rattle.trees.specs.Trees.{SameGroups, house, lowest, under, wellFormed}
 use Rattle.trees.specs.Triplets.{holds}
 use Rattle.tables.proofs.Bytes.{entered-proper}
 use Rattle.tables.proofs.Known.{known-by-table}
 use Rattle.tables.specs.Bytes.{entered}
 use Rattle.tables.specs.Filled.{tableFor}
 use Rattle.tables.specs.Index.{C}
-use Rattle.bodies.proofs.Back.{body-length, body-room}
+use Rattle.bodies.proofs.Back.{body-length, set-room}
+use Rattle.bodies.proofs.Drawn.{tree-below}
 use Rattle.bodies.proofs.Houses.{good-formed}
+use Rattle.bodies.proofs.Rules.{length-good}
 use Rattle.bodies.specs.Draws.{nodeCount, ordered, treeOf, written}
-use Rattle.bodies.specs.Nodes.{roomFor}
+use Rattle.bodies.specs.Nodes.{nodes, roomFor}
+use Rattle.outside.specs.Reaches.{Enclosed}
+use Rattle.building.proofs.Chosen.{set-small}
 use Rattle.building.specs.Builds.{outcome}
+use Rattle.building.specs.GoodSet.{GoodSet}
 use Rattle.promises.specs.Operations.{Given, builds, lists}
 use Rattle.answers.specs.Inputs.{Count, Table}
+use Rattle.promises.specs.Inputs.{Buildable}
 use Rattle.promises.specs.Demand2.{front}
 use Rattle.promises.specs.Demand3.{Full, Returns, tableOf}
 use Rattle.promises.proofs.Alone.{alone-table}
 use Rattle.promises.proofs.Built.{builds-tree}
 use Rattle.promises.proofs.Ordered.{in-house, ordered-body, ordered-same}
-use Rattle.promises.proofs.Tabled.{Within, table-exact, table-good}
+use Rattle.promises.proofs.Tabled.{Within, table-enclosed, table-exact, table-good}
 use Rattle.promises.proofs.Wrote.{front-is, wrote}
 
-module _ (n : ℕ) (b : List ℕ) (c : Count n) (f : Full n b) where
+module _ (n s : ℕ) (b : List ℕ) (c : Count n) (f : Full n s b) where
   formed : So (wellFormed (treeOf b))
   formed = good-formed n (c .most) b (f .body .good) (f .body .long)
+
+  tree-in : Below n (under (treeOf b))
+  tree-in = tree-below n (nodes b) (f .body .good) (length-good b (f .body .long) .0)
+
+  -- the set is one that a build may be handed
+  pub full-set : GoodSet n s
+  full-set =
+      let l = lowest-in (treeOf b) (formed-e (treeOf b) formed) in
+      let z : size s ≢ 0 = λ e. false≢true (sym (has-empty (lowest (treeOf b))) ∙ ap (λ (u : ℕ). has u (lowest (treeOf b))) (sym (size-zero s e)) ∙ sym (f .every (lowest (treeOf b))) ∙ l) in
+      record { some = omega (arith, z); below = λ x h. tree-in x (f .every x ∙ true-has s x h) }
+
+  set-in : Below n (has s)
+  set-in x h = tree-in x (f .every x ∙ h)
 
   -- the table of the tree
   abbrev its : List ℕ
@@ -46,30 +69,37 @@ module _ (n : ℕ) (b : List ℕ) (c : Count n) (f : Full n b) where
   its-good = table-good n (holds (treeOf b))
 
   within : Within n (holds (treeOf b))
-  within x y z h =
-      let o = holds-e (treeOf b) x y z h in
-      let u : Below n (under (treeOf b)) = λ i k. ltb-true i n (sym (f .every i) ∙ k) in
-      (u x (o .in-a), u y (o .in-b), u z (o .in-c))
+  within x y z h = let o = holds-e (treeOf b) x y z h in (tree-in x (o .in-a), tree-in y (o .in-b), tree-in z (o .in-c))
 
-  its-outcome : outcome n its ≡ tree (house (treeOf b))
+  its-exact : (x y z : ℕ) → entered its x y z ≡ holds (treeOf b) x y z
+  its-exact = table-exact n (holds (treeOf b)) (holds-proper (treeOf b)) within
+
+  -- it says nothing of other species
+  its-enclosed : Enclosed n s its
+  its-enclosed = table-enclosed n s (holds (treeOf b)) (holds-proper (treeOf b)) within
+      (λ x y z h. let o = holds-e (treeOf b) x y z h in (sym (f .every x) ∙ o .in-a, sym (f .every y) ∙ o .in-b, sym (f .every z) ∙ o .in-c))
+
+  its-outcome : outcome n s its ≡ tree (house (treeOf b))
   unfolding outcome
-  its-outcome = rebuild (entered its) (entered-proper its) n (below n) (all-below n) (treeOf b) formed (f .every)
-      (λ x y z _ _ _. table-exact n (holds (treeOf b)) (holds-proper (treeOf b)) within x y z)
+  its-outcome = rebuild (entered its) (entered-proper its) n (has s) set-in (treeOf b) formed (f .every) (λ x y z _ _ _. its-exact x y z)
 
-  module _ (o : List ℕ) (room : roomFor n ≤ length o) where
+  pub its-buildable : (o : List ℕ) → roomFor (size s) ≤ length o → Buildable n s its o
+  its-buildable o room = record { count = c; table = its-good; set = full-set; enclosed = its-enclosed; room = room }
+
+  module _ (o : List ℕ) (room : roomFor (size s) ≤ length o) where
     abbrev count : ℕ
     count = nodeCount (house (treeOf b))
 
     fits : length (ordered b) ≤ length o
     fits =
         let h = in-house n b c (f .body) in
-        omega (arith, body-room n (house (treeOf b)) (h .formed) (λ x k. ltb-true x n (sym (h .species x ∙ f .every x) ∙ k)))
+        omega (arith, room, set-room n s (set-small n s full-set) (house (treeOf b)) (h .formed) (λ x. h .species x ∙ f .every x))
 
     stands : front count (written o (ordered b)) ≡ ordered b
     stands = front-is n count o (ordered b) (body-length (house (treeOf b))) fits
 
-    its-rebuilt : Returns n b o (builds n its o)
-    its-rebuilt = subst (λ (g : Given). Returns n b o g) (sym (builds-tree n its o (record { count = c; table = its-good; room = room }) (house (treeOf b)) its-outcome)) (record {
+    its-rebuilt : Returns n b o (builds n s its o)
+    its-rebuilt = subst (λ (g : Given). Returns n b o g) (sym (builds-tree n s its o (its-buildable o room) (house (treeOf b)) its-outcome)) (record {
       count = count;
       told-is = refl;
       wrote = wrote n count o (ordered b) (body-length (house (treeOf b))) fits (ordered-body n b c (f .body));
@@ -77,13 +107,13 @@ module _ (n : ℕ) (b : List ℕ) (c : Count n) (f : Full n b) where
       groups = subst (λ (u : List ℕ). SameGroups (treeOf u) (treeOf b)) (sym stands) (ordered-same n b c (f .body));
     })
 
-    pub full-rebuilt : (t : List ℕ) → length t ≡ C n 3 → Returns n b o (builds n (tableOf lists n b t) o)
-    full-rebuilt t l = subst (λ (u : List ℕ). Returns n b o (builds n u o)) (sym (alone-table n b c (f .body) t l)) its-rebuilt
+    pub full-rebuilt : (t : List ℕ) → length t ≡ C n 3 → Returns n b o (builds n s (tableOf lists n b t) o)
+    full-rebuilt t l = subst (λ (u : List ℕ). Returns n b o (builds n s u o)) (sym (alone-table n b c (f .body) t l)) its-rebuilt
 
-pub full-known : (n : ℕ) (b b′ t t′ : List ℕ) → Count n → Full n b → Full n b′ → length t ≡ C n 3 → length t′ ≡ C n 3
+pub full-known : (n s : ℕ) (b b′ t t′ : List ℕ) → Count n → Full n s b → Full n s b′ → length t ≡ C n 3 → length t′ ≡ C n 3
     → (tableOf lists n b t ≡ tableOf lists n b′ t′) ↔ SameGroups (treeOf b) (treeOf b′)
-full-known n b b′ t t′ c f f′ l l′ =
-    let k = known-by-table n (treeOf b) (treeOf b′) (formed n b c f) (formed n b′ c f′) (f .every) (f′ .every) in
+full-known n s b b′ t t′ c f f′ l l′ =
+    let k = known-by-table n (has s) (set-in n s b c f) (treeOf b) (treeOf b′) (formed n s b c f) (formed n s b′ c f′) (f .every) (f′ .every) in
     let p = alone-table n b c (f .body) t l in
     let q = alone-table n b′ c (f′ .body) t′ l′ in
     ((λ e. k .0 (sym p ∙ e ∙ q)), λ s. p ∙ k .1 s ∙ sym q)

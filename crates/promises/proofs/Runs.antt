@@ -6,7 +6,8 @@ use mathlib.Core.Path.{_∙_, _≡_, ap, refl}
 use Prim.Native.Nat.{ℕ, _<_, _≤_}
 use native.Mathlib.Omega.{arith}
 use lib.ListN.{length, length-replicate}
-use Rattle.sets.specs.Sets.{digit, number}
+use Rattle.sets.proofs.Sizes.{size-upto}
+use Rattle.sets.specs.Sets.{digit, number, upto}
 use Rattle.sets.specs.Species.{Species, members}
 use Rattle.trees.specs.Build.{build, buildIn, stop, tree}
 use Rattle.trees.specs.Links.{leads, part, parts}
@@ -34,6 +35,7 @@ use Rattle.promises.specs.Inputs.{Buildable}
 use Rattle.promises.specs.Runs.{CallsHold, cherryBody, fanBody, nestedBody, room, starred}
 use Rattle.promises.proofs.Built.{builds-stop, builds-tree}
 use Rattle.promises.proofs.Checked.{checks-tree}
+use Rattle.promises.proofs.Everyone.{all-enclosed, all-set}
 
 module _ (n : ℕ) (t : List ℕ) (some : 0 < n) (most : n ≤ 64) (long : length t ≡ C n 3) (small : wrongByte t ≡ false) where
   count : Count n
@@ -42,14 +44,20 @@ module _ (n : ℕ) (t : List ℕ) (some : 0 < n) (most : n ≤ 64) (long : lengt
   table : Table n t
   table = record { long = long; small = small-exactly t .0 small }
 
-  good : Buildable n t (room n)
-  good = record { count = count; table = table; room = omega (arith, length-replicate {A = ℕ} (roomFor n) 0) }
+  good : Buildable n (upto n) t (room n)
+  good = record {
+    count = count;
+    table = table;
+    set = all-set n some;
+    enclosed = all-enclosed n t;
+    room = omega (arith, length-replicate {A = ℕ} (roomFor n) 0, size-upto n);
+  }
 
-  by-tree : (T : Tree) → outcome n t ≡ tree T → builds n t (room n) ≡ gives (told 0 (value node-count (nodeCount T) ∷ [])) (written (room n) (bodyOf T))
-  by-tree T e = builds-tree n t (room n) good T e
+  by-tree : (T : Tree) → outcome n (upto n) t ≡ tree T → builds n (upto n) t (room n) ≡ gives (told 0 (value node-count (nodeCount T) ∷ [])) (written (room n) (bodyOf T))
+  by-tree T e = builds-tree n (upto n) t (room n) good T e
 
-  by-stop : (U : Species) → outcome n t ≡ stop U → builds n t (room n) ≡ gives (told 10 (value stopping-set (number 64 U) ∷ [])) (room n)
-  by-stop U e = builds-stop n t (room n) good U e
+  by-stop : (U : Species) → outcome n (upto n) t ≡ stop U → builds n (upto n) t (room n) ≡ gives (told 10 (value stopping-set (number 64 U) ∷ [])) (room n)
+  by-stop U e = builds-stop n (upto n) t (room n) good U e
 
   by-check : (b : List ℕ) → badLength (length b) ≡ false → Faults.fault 0 (nodes b) n ≡ Fine → (T : Tree) → treeOf b ≡ T → (k : Look) → Looks.firstRefusal (triplesLooks n t T) ≡ k → checks n t b ≡ lookTold k []
   by-check b l f T e k q = checks-tree n t b (record { count = count; table = table; body = record { good = no-fault 0 n (nodes b) .0 f; long = l } })

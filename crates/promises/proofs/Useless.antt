@@ -4,32 +4,35 @@ use mathlib.Core.Bool.{Bool, So, cond, false, false≢true, true}
 use mathlib.Core.List.{List, [], _∷_}
 use mathlib.Core.Logic.{_≢_, inl, ⊎-elim}
 use mathlib.Core.Path.{_∙_, _≡_, ap, ap₂, refl, subst, sym}
-use Prim.Native.Nat.{_<_, suc, zero, ℕ}
+use Prim.Native.Nat.{_<_, _≤_, _^_, suc, zero, ℕ}
 use native.Mathlib.Omega.{arith}
 use borrow.Author.Tests.{eq-eqb, eqb-false, eqb-true, lt-ltb, ltb-false, ltb-true}
 use lib.Dec.{eqb, ltb}
-use lib.ListN.{getD, take}
+use lib.ListN.{getD, length, take}
 use Rattle.sets.proofs.Bools.{bool-ext}
-use Rattle.sets.proofs.Members.{all-below}
-use Rattle.sets.specs.Sets.{digit, has}
-use Rattle.sets.specs.Species.{Species, below, members}
+use Rattle.sets.proofs.Digits.{lt-of-has}
+use Rattle.sets.proofs.Least.{some-member}
+use Rattle.sets.proofs.Sizes.{size-upto}
+use Rattle.sets.proofs.Tests.{has-below, has-upto, true-has}
+use Rattle.sets.specs.Sets.{digit, has, size}
+use Rattle.sets.specs.Species.{Below, Species, below, members}
 use Rattle.trees.proofs.Groups.{same-holds}
 use Rattle.trees.proofs.Theorems.{aho-one, built-tree}
 use Rattle.trees.specs.Aho.{AhoTree}
 use Rattle.trees.specs.Build.{build, buildIn, tree}
 use Rattle.trees.specs.Held.{CanBeHeld, HeldBy}
 use Rattle.trees.specs.Links.{Walk, leads, part, parts, stay, via}
-use Rattle.trees.specs.Trees.{SameGroups, Tree, cons, inHouseOrder, leaf, nil, node}
+use Rattle.trees.specs.Trees.{SameGroups, Tree, cons, inHouseOrder, leaf, nil, node, under}
 use Rattle.tables.proofs.Bytes.{entered-empty, entered-proper, entered-zeros}
 use Rattle.tables.proofs.Limits.{small-exactly}
 use Rattle.tables.specs.Bytes.{bitOf, entered, over, placeOf}
 use Rattle.tables.specs.Filled.{bytesFrom, tableFor}
 use Rattle.tables.specs.Index.{C, highAt, index, largest, lowAt, midAt}
-use Rattle.bodies.proofs.Back.{body-back, body-length, body-room}
+use Rattle.bodies.proofs.Back.{body-back, body-length, set-room}
 use Rattle.bodies.proofs.Rules.{no-fault}
 use Rattle.bodies.specs.Draws.{bodyOf, nodeCount, treeAt, treeOf, written}
 use Rattle.bodies.specs.Faults.{fault, firstBreak, seen}
-use Rattle.bodies.specs.Nodes.{bodyLength, children, nodes}
+use Rattle.bodies.specs.Nodes.{bodyLength, children, nodes, roomFor}
 use Rattle.answers.specs.Answers.{Told, node-count, table-byte, told, triple-index, value}
 use Rattle.answers.specs.Inputs.{Body, Count}
 use Rattle.collections.proofs.Whole.{read-pass}
@@ -37,20 +40,24 @@ use Rattle.collections.specs.Collection.{Collection}
 use Rattle.collections.specs.Layout.{start}
 use Rattle.collections.specs.Reads.{looksFrom, readLooks}
 use Rattle.listing.specs.Lists.{heldUpTo}
+use Rattle.building.proofs.Chosen.{set-below, set-small}
+use Rattle.building.proofs.Numbered.{not-empty}
 use Rattle.building.specs.Builds.{outcome}
 use Rattle.promises.specs.Operations.{Given, builds, checks, gives, lists}
 use Rattle.promises.specs.Inputs.{Buildable, Listable}
 use Rattle.promises.specs.Demand2.{ChecksRight, FirstTriple, Keeps, front}
-use Rattle.promises.specs.Demand3.{Full}
+use Rattle.promises.specs.Demand3.{Full, tableOf}
 use Rattle.promises.specs.Runs.{cherryBody, fanBody}
 use Rattle.promises.specs.Useless.{ClosingBreaks, ClosingHeld, FirstAloneBreaks, FirstBreaks, FixedBreaks, Gives, Invents, InventingBreaks, LenientBreaks, ListsFirst, Misjudges, MisjudgingBreaks, RefusingBreaks, RefusingBreaksRebuilding, SilentBreaks, StarryBreaks, Tells99Breaks, firstAlone, lenient, onZero, star, starry, tells99}
-use Rattle.promises.proofs.Alone.{alone-buildable}
+use Rattle.promises.proofs.Alone.{alone-table}
 use Rattle.promises.proofs.Built.{builds-tree, good-built}
 use Rattle.promises.proofs.Checked.{good-checked}
 use Rattle.promises.proofs.Chosen.{value-is}
 use Rattle.promises.proofs.Listed.{lists-is}
 use Rattle.promises.proofs.Runs.{starred-given}
-use Rattle.promises.proofs.Star.{star-sound}
+use Rattle.promises.proofs.Everyone.{all-enclosed, all-set}
+use Rattle.promises.proofs.Rebuilt.{its-buildable}
+use Rattle.promises.proofs.Star.{star-sound, star-species}
 use Rattle.promises.proofs.Wrote.{front-is}
 
 -- ---- one species, its empty table, and room for the leaf
@@ -58,27 +65,31 @@ use Rattle.promises.proofs.Wrote.{front-is}
 abbrev two-bytes : List ℕ
 two-bytes = 0 ∷ 0 ∷ []
 
-one-good : Buildable 1 [] two-bytes
+one-good : Buildable 1 1 [] two-bytes
 unfolding C over
 one-good = record {
   count = record { some = omega arith; most = omega arith };
   table = record { long = refl; small = small-exactly [] .0 refl };
-  room = omega arith;
+  set = all-set 1 (omega arith);
+  enclosed = all-enclosed 1 [];
+  room = omega (arith, size-upto 1);
 }
 
 -- the lone leaf holds all that is entered
-lone : CanBeHeld (entered []) (below 1)
+lone : CanBeHeld (entered []) (has 1)
 lone = (
   leaf 0,
   record {
-    species = λ x. bool-ext (eqb 0 x) (ltb x 1) (λ h. let e = eqb-true 0 x h in lt-ltb x 1 (omega arith)) (λ h. let l = ltb-true x 1 h in eq-eqb 0 x (omega arith));
+    species = λ x. bool-ext (eqb 0 x) (has 1 x)
+        (λ h. let e = eqb-true 0 x h in ap (λ (S : Species). S x) (has-upto 1) ∙ lt-ltb x 1 (omega arith))
+        (λ h. let l = ltb-true x 1 (sym (ap (λ (S : Species). S x) (has-upto 1)) ∙ h) in eq-eqb 0 x (omega arith));
     formed = refl;
     keeps = λ a b c ha hb hc h. absurd (false≢true (sym (entered-empty a b c) ∙ h));
   },
 )
 
 pub refusing-breaks : RefusingBreaks
-refusing-breaks f never d = let r = d 1 [] two-bytes one-good in ⊎-elim (never 1 [] two-bytes one-good) (λ z. r .refuses .0 z lone) (r .one-of)
+refusing-breaks f never d = let r = d 1 1 [] two-bytes one-good in ⊎-elim (never 1 1 [] two-bytes one-good) (λ z. r .refuses .0 z lone) (r .one-of)
 
 -- bytes of zeros are no body
 zeros : (k : ℕ) → Body 1 (take k two-bytes) → ⊥
@@ -88,9 +99,9 @@ zeros (suc (suc k)) w = let e : _≡_ {A = ℕ} 0 255 = w .good .root (omega ari
 
 pub silent-breaks : SilentBreaks
 silent-breaks f still d =
-    let r = d 1 [] two-bytes one-good in
+    let r = d 1 1 [] two-bytes one-good in
     ⊎-elim
-    (λ z. let k = r .keeps z in zeros (bodyLength (k .count)) (subst (λ (b : List ℕ). Body 1 (front (k .count) b)) (still 1 [] two-bytes one-good) (k .wrote .body)))
+    (λ z. let k = r .keeps z in zeros (bodyLength (k .count)) (subst (λ (b : List ℕ). Body 1 (front (k .count) b)) (still 1 1 [] two-bytes one-good) (k .wrote .body)))
     (λ z. r .refuses .0 z lone)
     (r .one-of)
 
@@ -105,12 +116,12 @@ keeps-count t n S o {g} {g′} k k′ =
 
 pub inventing-breaks : InventingBreaks
 inventing-breaks f i d =
-    let r = d (i .n) (i .t) (i .o) (i .good) in
-    let ours = good-built (i .n) (i .t) (i .o) (i .good) .keeps (i .built) in
+    let r = d (i .n) (i .s) (i .t) (i .o) (i .good) in
+    let ours = good-built (i .n) (i .s) (i .t) (i .o) (i .good) .keeps (i .built) in
     ⊎-elim
     (λ z.
     let k = r .keeps z in
-    i .other (k .told-is ∙ ap (λ (m : ℕ). told 0 (value node-count m ∷ [])) (keeps-count (i .t) (i .n) (below (i .n)) (i .o) k ours) ∙ sym (ours .told-is)))
+    i .other (k .told-is ∙ ap (λ (m : ℕ). told 0 (value node-count m ∷ [])) (keeps-count (i .t) (i .n) (has (i .s)) (i .o) k ours) ∙ sym (ours .told-is)))
     (λ z. r .refuses .0 z (_, ours .held))
     (r .one-of)
 
@@ -125,22 +136,23 @@ zero-on g h = go (eqb (g .told .number) 0) refl
     go true e z = refl
     go false e z = absurd (eqb-false (g .told .number) 0 e z)
 
-lone-built : outcome 1 [] ≡ tree (leaf 0)
+lone-built : outcome 1 1 [] ≡ tree (leaf 0)
 unfolding outcome build buildIn members part leads parts entered placeOf bitOf index C digit
 lone-built = refl
 
 pub tells99-invents : Invents tells99
 tells99-invents =
-    let ours = builds-tree 1 [] two-bytes one-good (leaf 0) lone-built in
+    let ours = builds-tree 1 1 [] two-bytes one-good (leaf 0) lone-built in
     let built = ap (λ (g : Given). g .told .number) ours in
     record {
-      writes = λ n t o g z. ap (λ (h : Given). h .after) (on-zero (builds n t o) _ z);
+      writes = λ n s t o g z. ap (λ (h : Given). h .after) (on-zero (builds n s t o) _ z);
       n = 1;
+      s = 1;
       t = [];
       o = two-bytes;
       good = one-good;
       built = built;
-      other = λ e. let m = value-is 99 1 (sym (ap (λ (g : Given). g .told) (on-zero (builds 1 [] two-bytes) _ built)) ∙ e ∙ ap (λ (g : Given). g .told) ours) in omega arith;
+      other = λ e. let m = value-is 99 1 (sym (ap (λ (g : Given). g .told) (on-zero (builds 1 1 [] two-bytes) _ built)) ∙ e ∙ ap (λ (g : Given). g .told) ours) in omega arith;
     }
 
 pub tells99-breaks : Tells99Breaks
@@ -157,62 +169,82 @@ ten-bytes = 0 ∷ 0 ∷ 0 ∷ 0 ∷ 0 ∷ 0 ∷ 0 ∷ 0 ∷ 0 ∷ 0 ∷ []
 abbrev unsaid : List ℕ
 unsaid = 0 ∷ []
 
-module _ (t : List ℕ) (T : Tree) (e : build (entered t) 3 (below 3) ≡ tree T) where
-  three-built : HeldBy (entered t) (below 3) T × So (inHouseOrder T)
-  three-built = built-tree (entered t) (entered-proper t) 3 (below 3) (all-below 3) 0 refl T e
+-- all three
+three-below : Below 3 (has 7)
+three-below x h = ltb-true x 3 (sym (ap (λ (S : Species). S x) (has-upto 3)) ∙ h)
 
-fan-built : build (entered unsaid) 3 (below 3) ≡ tree (treeOf fanBody)
+module _ (t : List ℕ) (T : Tree) (e : build (entered t) 3 (has 7) ≡ tree T) where
+  three-built : HeldBy (entered t) (has 7) T × So (inHouseOrder T)
+  three-built = built-tree (entered t) (entered-proper t) 3 (has 7) three-below 0 (ap (λ (S : Species). S 0) (has-upto 3)) T e
+
+fan-built : build (entered unsaid) 3 (has 7) ≡ tree (treeOf fanBody)
 unfolding build buildIn members part leads parts entered placeOf bitOf index C digit children treeAt
 fan-built = refl
 
-cherry-built : build (entered (1 ∷ [])) 3 (below 3) ≡ tree (treeOf cherryBody)
+cherry-built : build (entered (1 ∷ [])) 3 (has 7) ≡ tree (treeOf cherryBody)
 unfolding build buildIn members part leads parts entered placeOf bitOf index C digit children treeAt
 cherry-built = refl
 
-fan-full : Full 3 fanBody
+fan-full : Full 3 7 fanBody
 unfolding fault firstBreak seen children
 fan-full = record { body = record { good = no-fault 0 3 (nodes fanBody) .0 refl; long = refl }; every = three-built unsaid (treeOf fanBody) fan-built .0 .species }
 
-cherry-full : Full 3 cherryBody
+cherry-full : Full 3 7 cherryBody
 unfolding fault firstBreak seen children
 cherry-full = record { body = record { good = no-fault 0 3 (nodes cherryBody) .0 refl; long = refl }; every = three-built (1 ∷ []) (treeOf cherryBody) cherry-built .0 .species }
+
+three-room : (o : List ℕ) → roomFor 3 ≤ length o → roomFor (size 7) ≤ length o
+three-room o h = omega (arith, h, size-upto 3)
+
+-- the table of one of them, in the hands of a builder
+three-good : (b : List ℕ) → Full 3 7 b → Buildable 3 7 (tableOf lists 3 b unsaid) ten-bytes
+unfolding C
+three-good b f = subst (λ (t : List ℕ). Buildable 3 7 t ten-bytes) (sym (alone-table 3 b three (f .body) unsaid refl)) (its-buildable 3 7 b three f ten-bytes (three-room ten-bytes (omega arith)))
 
 pub fixed-breaks : FixedBreaks
 unfolding children treeAt C
 fixed-breaks f T same d =
-    let r = d .rebuilt 3 fanBody unsaid ten-bytes three fan-full refl (omega arith) in
-    let r′ = d .rebuilt 3 cherryBody unsaid ten-bytes three cherry-full refl (omega arith) in
-    let g = alone-buildable 3 fanBody three (fan-full .body) unsaid ten-bytes refl (omega arith) in
-    let g′ = alone-buildable 3 cherryBody three (cherry-full .body) unsaid ten-bytes refl (omega arith) in
-    let s : SameGroups (T 3) (treeOf fanBody) = subst (λ (u : Tree). SameGroups u (treeOf fanBody)) (same 3 _ _ g (r .count) (r .told-is)) (r .groups) in
-    let s′ : SameGroups (T 3) (treeOf cherryBody) = subst (λ (u : Tree). SameGroups u (treeOf cherryBody)) (same 3 _ _ g′ (r′ .count) (r′ .told-is)) (r′ .groups) in
-    false≢true (sym (same-holds (T 3) (treeOf fanBody) s 0 1 2) ∙ same-holds (T 3) (treeOf cherryBody) s′ 0 1 2)
+    let r = d .rebuilt 3 7 fanBody unsaid ten-bytes three fan-full refl (three-room ten-bytes (omega arith)) in
+    let r′ = d .rebuilt 3 7 cherryBody unsaid ten-bytes three cherry-full refl (three-room ten-bytes (omega arith)) in
+    let s : SameGroups (T 7) (treeOf fanBody) = subst (λ (u : Tree). SameGroups u (treeOf fanBody)) (same 3 7 _ _ (three-good fanBody fan-full) (r .count) (r .told-is)) (r .groups) in
+    let s′ : SameGroups (T 7) (treeOf cherryBody) = subst (λ (u : Tree). SameGroups u (treeOf cherryBody)) (same 3 7 _ _ (three-good cherryBody cherry-full) (r′ .count) (r′ .told-is)) (r′ .groups) in
+    false≢true (sym (same-holds (T 7) (treeOf fanBody) s 0 1 2) ∙ same-holds (T 7) (treeOf cherryBody) s′ 0 1 2)
 
 -- the one that refuses always breaks this demand too
 pub refusing-breaks-rebuilding : RefusingBreaksRebuilding
 unfolding C
 refusing-breaks-rebuilding f never d =
-    let r = d .rebuilt 3 fanBody unsaid ten-bytes three fan-full refl (omega arith) in
-    never 3 _ ten-bytes (alone-buildable 3 fanBody three (fan-full .body) unsaid ten-bytes refl (omega arith)) (ap (λ (x : Told). x .number) (r .told-is))
+    let r = d .rebuilt 3 7 fanBody unsaid ten-bytes three fan-full refl (three-room ten-bytes (omega arith)) in
+    never 3 7 _ ten-bytes (three-good fanBody fan-full) (ap (λ (x : Told). x .number) (r .told-is))
 
 pub starry-gives : Gives star starry
-starry-gives n t o g k e =
-    let T = star n in
-    let s = star-sound n (g .count .some) in
-    let q = zero-on (builds n t o) (gives (told 0 (value node-count (nodeCount T) ∷ [])) (written o (bodyOf T))) (ap (λ (x : Told). x .number) e) in
-    let m = value-is k (nodeCount T) (sym e ∙ ap (λ (h : Given). h .told) q) in
-    ap₂ (λ (j : ℕ) (u : List ℕ). treeOf (front j u)) m (ap (λ (h : Given). h .after) q)
-    ∙ ap treeOf (front-is n (nodeCount T) o (bodyOf T) (body-length T) (omega (arith, g .room, body-room n T (s .0) (s .1))))
-    ∙ body-back n T (s .0) (s .1) (g .count .most)
+starry-gives n s t o g k e =
+    let T = star s in
+    let small : s < 2 ^ 64 = lt-of-has 64 s (λ x h. omega (arith, g .set .below x h, g .count .most)) in
+    let m = some-member s (not-empty s (g .set .some)) in
+    let formed = star-sound 64 (has s) in
+    let species = star-species 64 (has s) (has-below 64 s small) (m .0) (true-has s (m .0) (m .1)) in
+    let below : Below n (under T) = λ x h. set-below n s (g .set) x (sym (species x) ∙ h) in
+    let q = zero-on (builds n s t o) (gives (told 0 (value node-count (nodeCount T) ∷ [])) (written o (bodyOf T))) (ap (λ (x : Told). x .number) e) in
+    let c = value-is k (nodeCount T) (sym e ∙ ap (λ (h : Given). h .told) q) in
+    ap₂ (λ (j : ℕ) (u : List ℕ). treeOf (front j u)) c (ap (λ (h : Given). h .after) q)
+    ∙ ap treeOf (front-is n (nodeCount T) o (bodyOf T) (body-length T) (omega (arith, g .room, set-room n s (set-small n s (g .set)) T formed species)))
+    ∙ body-back n T formed below (g .count .most)
 
 pub starry-breaks : StarryBreaks
 starry-breaks = fixed-breaks starry star starry-gives
 
 -- ---- a gap that is closed: no source says anything of three species, and ((0,1),2) puts two of them together
 
-unsaid-good : Buildable 3 unsaid ten-bytes
+unsaid-good : Buildable 3 7 unsaid ten-bytes
 unfolding C over
-unsaid-good = record { count = three; table = record { long = refl; small = small-exactly unsaid .0 refl }; room = omega arith }
+unsaid-good = record {
+  count = three;
+  table = record { long = refl; small = small-exactly unsaid .0 refl };
+  set = all-set 3 (omega arith);
+  enclosed = all-enclosed 3 unsaid;
+  room = three-room ten-bytes (omega arith);
+}
 
 unsaid-empty : (a b c : ℕ) → So (entered unsaid a b c) → ⊥
 unsaid-empty a b c h = false≢true (sym (entered-zeros 1 a b c) ∙ h)
@@ -230,7 +262,7 @@ closing-held =
 pub closing-breaks : ClosingBreaks
 unfolding children treeAt
 closing-breaks d =
-    let k = d .building 3 unsaid ten-bytes unsaid-good .keeps refl in
+    let k = d .building 3 7 unsaid ten-bytes unsaid-good .keeps refl in
     let a : AhoTree (entered unsaid) (treeOf cherryBody) = subst (λ (m : ℕ). AhoTree (entered unsaid) (treeOf (front m cherryBody))) (sym (value-is 5 (k .count) (k .told-is))) (k .aho) in
     unsaid-walk (a .0 0 1 refl refl .0 (node (cons (leaf 0) (cons (leaf 1) nil)), inl refl, refl, refl)) (omega arith)
 

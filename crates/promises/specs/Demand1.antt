@@ -6,12 +6,12 @@ use mathlib.Core.Path.{_≡_}
 use Prim.Native.Nat.{ℕ}
 use lib.ListN.{length}
 use Rattle.bodies.specs.Nodes.{nodes}
-use Rattle.answers.specs.Answers.{Value, node-count, species-count, text-length, value}
+use Rattle.answers.specs.Answers.{Value, node-count, text-length, value}
 use Rattle.answers.specs.Looks.{firstRefusal, lookTold}
 use Rattle.answers.specs.declared.Look.{Look}
 use Rattle.collections.specs.Reads.{countValues, countsOf, readLooks}
 use Rattle.listing.specs.Lists.{listLooks}
-use Rattle.entering.specs.Enters.{enterLooks}
+use Rattle.entering.specs.Enters.{enterLooks, entry, entryValues}
 use Rattle.ordering.specs.Orders.{orderLooks}
 use Rattle.parsing.specs.Parses.{parseLooks, textBody}
 use Rattle.rendering.specs.Renders.{renderLooks}
@@ -29,9 +29,9 @@ pub record Chosen (order : List Look) (values : List Value) (o : List ℕ) (g : 
 pub record Demand1 (L : Operations) : Type 0 where
   pub reading : (b : List ℕ) → L .read b ≡ lookTold (firstRefusal (readLooks b)) (countValues (countsOf b))
   pub listing : (b t : List ℕ) → Chosen (listLooks b (length t)) (countValues (countsOf b)) t (L .list b t)
-  pub entering : (n : ℕ) (rs : List (List ℕ)) (t : List ℕ) → Chosen (enterLooks n rs (length t)) (value species-count n ∷ []) t (L .enter n rs t)
+  pub entering : (n : ℕ) (rs : List (List ℕ)) (t : List ℕ) → Chosen (enterLooks n rs (length t)) (entryValues (entry n rs)) t (L .enter n rs t)
   pub ordering : (n : ℕ) (b o : List ℕ) → Chosen (orderLooks n b (length o)) (value node-count (nodes b .count) ∷ []) o (L .order n b o)
-  pub building : (n : ℕ) (t o : List ℕ) → Chosen (buildLooks n t (length o)) (value node-count (nodesIn (outcome n t)) ∷ []) o (L .build n t o)
+  pub building : (n s : ℕ) (t o : List ℕ) → Chosen (buildLooks n s t (length o)) (value node-count (nodesIn (outcome n s t)) ∷ []) o (L .build n s t o)
   pub checking : (n : ℕ) (t b : List ℕ) → L .check n t b ≡ lookTold (firstRefusal (checkLooks n t b)) []
   pub parsing : (n : ℕ) (w o : List ℕ) → Chosen (parseLooks n w (length o)) (value node-count (nodes (textBody w) .count) ∷ []) o (L .parse n w o)
   pub rendering : (n : ℕ) (b o : List ℕ) → Chosen (renderLooks n b (length o)) (value text-length (length (newickText b)) ∷ []) o (L .render n b o)

@@ -13,7 +13,7 @@ use Rattle.trees.specs.Aho.{AhoTree}
 use Rattle.trees.specs.Check.{Forced, PC, PI, R, differs}
 use Rattle.trees.specs.Held.{CanBeHeld, HeldBy}
 use Rattle.trees.specs.Links.{JoinedByWalks}
-use Rattle.trees.specs.Trees.{SameGroups, Tree, inHouseOrder}
+use Rattle.trees.specs.Trees.{SameGroups, Tree, inHouseOrder, under}
 use Rattle.trees.specs.Triplets.{Triplets, holds, onTriple}
 use Rattle.tables.specs.Bytes.{entered}
 use Rattle.tables.specs.Index.{index}
@@ -21,7 +21,7 @@ use Rattle.tables.specs.Tells.{TableTells}
 use Rattle.bodies.specs.Draws.{bodyOf, treeOf}
 use Rattle.bodies.specs.Nodes.{bodyLength, nodes}
 use Rattle.answers.specs.Inputs.{Body}
-use Rattle.answers.specs.Answers.{Told, node-count, species-count, stopping-set, table-byte, told, tree-count, triple-index, value}
+use Rattle.answers.specs.Answers.{Told, node-count, occurring-set, species-count, stopping-set, table-byte, told, tree-count, triple-index, value}
 use Rattle.collections.specs.Collection.{Collection}
 use Rattle.collections.specs.Layout.{bodyAt, species, trees}
 use Rattle.entering.specs.Enters.{left, outer, right}
@@ -30,8 +30,22 @@ use Rattle.promises.specs.Inputs.{Buildable, Checkable, Enterable, Lista
 
 -- ---- reading: 0 for what is a collection, and for nothing else
 
+-- u is the number of the set of those x of which P is so
+abbrev pub IsSet : ℕ → (ℕ → Type 0) → Type 0
+IsSet u P = (x : ℕ) → So (has u x) ↔ P x
+
+-- x is under the root of some tree of the collection, whether a triplet mentions it or not
+abbrev pub SomeTreeHas : List ℕ → ℕ → Type 0
+SomeTreeHas b x = (k : ℕ) × (k < trees b) × So (under (treeOf (bodyAt b k)) x)
+
+-- "list: n and tree count"; request T-03: "also [..] the set that occurs"
+pub record ReadsRight (b : List ℕ) (r : Told) : Type 0 where
+  pub set : ℕ
+  pub told-is : r ≡ told 0 (value species-count (species b) ∷ value tree-count (trees b) ∷ value occurring-set set ∷ [])
+  pub occurs : IsSet set (SomeTreeHas b)
+
 abbrev pub ReadsAll : Reader → Type 0
-ReadsAll f = (b : List ℕ) → (f b .number ≡ 0) ↔ Collection b
+ReadsAll f = (b : List ℕ) → ((f b .number ≡ 0) ↔ Collection b) × (Collection b → ReadsRight b (f b))
 
 -- ---- listing: the bits of all trees
 
@@ -41,7 +55,7 @@ SomeTreeHolds b x y z = (k : ℕ) × (k < trees b) × So (holds (treeOf (bodyAt 
 
 -- "sets exactly the bits that at least one of its trees holds, over all trees"
 pub record ListsRight (b : List ℕ) (g : Given) : Type 0 where
-  pub told-is : g .told ≡ told 0 (value species-count (species b) ∷ value tree-count (trees b) ∷ [])
+  pub reads : ReadsRight b (g .told)
   pub table : TableTells (species b) (SomeTreeHolds b) (g .after)
 
 abbrev pub ListsAll : Lister → Type 0
@@ -56,8 +70,18 @@ RecordSays r x y z = (((left r ≡ x) × (right r ≡ y)) ⊎ ((left r ≡ y) ×
 abbrev pub SomeRecordSays : List (List ℕ) → ℕ → ℕ → ℕ → Type 0
 SomeRecordSays rs x y z = (i : ℕ) × (i < length rs) × RecordSays (getD rs i []) x y z
 
+-- the record names x
+abbrev pub RecordHas : List ℕ → ℕ → Type 0
+RecordHas r x = (left r ≡ x) ⊎ ((right r ≡ x) ⊎ (outer r ≡ x))
+
+abbrev pub SomeRecordHas : List (List ℕ) → ℕ → Type 0
+SomeRecordHas rs x = (i : ℕ) × (i < length rs) × RecordHas (getD rs i []) x
+
+-- "entering returns n"; request T-03: "also [..] the set that occurs"
 pub record EntersRight (n : ℕ) (rs : List (List ℕ)) (g : Given) : Type 0 where
-  pub told-is : g .told ≡ told 0 (value species-count n ∷ [])
+  pub set : ℕ
+  pub told-is : g .told ≡ told 0 (value species-count n ∷ value occurring-set set ∷ [])
+  pub occurs : IsSet set (SomeRecordHas rs)
   pub table : TableTells n (SomeRecordSays rs) (g .after)
 
 abbrev pub EntersAll : Enterer → Type 0
@@ -117,9 +141,9 @@ pub record BuildsRight (E : Triplets) (n : ℕ) (S : Species) (o : List ℕ) (g 
   pub refuses : (g .told .number ≡ 10) ↔ (CanBeHeld E S → ⊥)
   pub shows : g .told .number ≡ 10 → Shows E S g
 
--- in the base S is all n species
+-- request T-03: "exactly the species of the set"
 abbrev pub BuildsAll : Builder → Type 0
-BuildsAll f = (n : ℕ) (t o : List ℕ) → Buildable n t o → BuildsRight (entered t) n (below n) o (f n t o)
+BuildsAll f = (n s : ℕ) (t o : List ℕ) → Buildable n s t o → BuildsRight (entered t) n (has s) o (f n s t o)
 
 -- ---- the check of a tree T, against the entered triplets E, over trees with exactly the species S
 

@@ -1,4 +1,4 @@
--- What `shelf` prints, in document 01's three forms and in the words of the demands: "Line 1 has the number and the node count; line 2 the body; line 3 the check's
+-- What `shelf` prints, in document 01's three forms and one more of request T-03, and in the words of the demands: "Line 1 has the number and the node count; line 2 the body; line 3 the check's
 -- number, with the triple index after it (index 0 too) unless the check's number is 0. Refusal 10 prints only `build 10` and the set in decimal. A collection
 -- refused prints `read`, the number, tree number and node, with 0 for what that refusal lacks."
 use mathlib.Core.List.{List, [], _∷_, _++_}
@@ -6,7 +6,7 @@ use mathlib.Core.Logic.{_⊎_}
 use mathlib.Core.Path.{_≡_}
 use Prim.Native.Nat.{ℕ, _≤_}
 use lib.ListN.{replicate, take}
-use Rattle.sets.specs.Species.{below}
+use Rattle.sets.specs.Sets.{has}
 use Rattle.trees.specs.Held.{CanBeHeld}
 use Rattle.tables.specs.Bytes.{entered}
 use Rattle.tables.specs.Index.{C}
@@ -14,11 +14,12 @@ use Rattle.bodies.specs.Nodes.{longest}
 use Rattle.answers.specs.Answers.{Name, Told, Value, node-number, told, tree-number, triple-index, value}
 use Rattle.collections.specs.Collection.{Collection}
 use Rattle.collections.specs.Layout.{species}
+use Rattle.collections.specs.Occurs.{occurring}
 use Rattle.shelf_text.proofs.shelf as shelf
 use Rattle.shelf_text.specs.Shelf.{build-word, check-word, read-word}
 use Rattle.shelf_text.specs.Texts.{line, numbers}
 use Rattle.promises.specs.Operations.{Given, Operations}
-use Rattle.promises.specs.Demand2.{Keeps, Shows, front}
+use Rattle.promises.specs.Demand2.{Keeps, Shows, SomeTreeHas, front}
 use Rattle.promises.specs.Tied.{After}
 
 -- ---- the values that are returned with a number, by their names
@@ -49,8 +50,9 @@ module _ (L : Operations) (b : List ℕ) where
   abbrev pub shelfRoom : List ℕ
   shelfRoom = replicate longest 0
 
+  -- request T-03: the build is over the set that occurs
   abbrev pub shelfBuilt : Given
-  shelfBuilt = L .build (species b) shelfTable shelfRoom
+  shelfBuilt = L .build (species b) (occurring b) shelfTable shelfRoom
 
   -- b is no collection: one line, with the refusal of reading
   pub record ShowsUnread (text : List ℕ) : Type 0 where
@@ -62,26 +64,33 @@ module _ (L : Operations) (b : List ℕ) where
     pub node-is : ValueOr0 node-number (L .read b .values) node
     pub is : text ≡ line read-word (L .read b .number ∷ tree ∷ node ∷ [])
 
-  -- b is a collection, and no tree holds all that its trees say: one line, with the stopping set
+  -- b is a collection in which no species occurs: "it prints only `build 15`"
+  pub record ShowsNobody (text : List ℕ) : Type 0 where
+    pub collection : Collection b
+    pub nobody : (x : ℕ) → SomeTreeHas b x → ⊥
+    pub is : text ≡ line build-word (15 ∷ [])
+
+  -- b is a collection, and no tree of the species that occur holds all that its trees say: one line, with the stopping set
   pub record ShowsStop (text : List ℕ) : Type 0 where
     pub collection : Collection b
-    pub no-tree : CanBeHeld (entered shelfTable) (below (species b)) → ⊥
-    pub stops : Shows (entered shelfTable) (below (species b)) shelfBuilt
+    pub no-tree : CanBeHeld (entered shelfTable) (has (occurring b)) → ⊥
+    pub stops : Shows (entered shelfTable) (has (occurring b)) shelfBuilt
     pub is : text ≡ line build-word (10 ∷ stops .set ∷ [])
 
-  -- b is a collection, and a tree holds all: three lines, with the tree that was built and its check
+  -- b is a collection, and a tree of the species that occur holds all: three lines, with the tree that was built and its check
   pub record ShowsTree (text : List ℕ) : Type 0 where
     pub collection : Collection b
-    pub keeps : Keeps (entered shelfTable) (species b) (below (species b)) shelfRoom shelfBuilt
+    pub keeps : Keeps (entered shelfTable) (species b) (has (occurring b)) shelfRoom shelfBuilt
     pub check : List ℕ
     pub checked : CheckShown (L .check (species b) shelfTable (front (keeps .count) (shelfBuilt .after))) check
     pub is : text ≡ line build-word (0 ∷ keeps .count ∷ []) ++ (numbers (front (keeps .count) (shelfBuilt .after)) ++ line check-word check)
 
   abbrev pub Forms : List ℕ → Type 0
-  Forms text = ShowsUnread text ⊎ (ShowsStop text ⊎ ShowsTree text)
+  Forms text = ShowsUnread text ⊎ (ShowsNobody text ⊎ (ShowsStop text ⊎ ShowsTree text))
 
--- after any call of `shelf_text::shelf`, whatever bytes are handed in: the text has one of the three forms, and the bytes alone say which
+-- after any call of `shelf_text::shelf`, whatever bytes are handed in: the text has one of these forms, and the bytes alone say which
 pub record ShowsForms (L : Operations) : Type 2 where
   pub one-of : After shelf.ended (λ M. shelf.clauses) (λ κs a r s. Forms L (a .0 .now) (take r (s .1 .1 .0 .now)))
-  pub unread-alone : (b x y : List ℕ) → ShowsUnread L b x → (ShowsStop L b y ⊎ ShowsTree L b y) → ⊥
+  pub unread-alone : (b x y : List ℕ) → ShowsUnread L b x → (ShowsNobody L b y ⊎ (ShowsStop L b y ⊎ ShowsTree L b y)) → ⊥
+  pub nobody-alone : (b x y : List ℕ) → ShowsNobody L b x → (ShowsStop L b y ⊎ ShowsTree L b y) → ⊥
   pub stop-alone : (b x y : List ℕ) → ShowsStop L b x → ShowsTree L b y → ⊥

@@ -4,12 +4,15 @@ use mathlib.Core.Logic.{_≢_}
 use mathlib.Core.Path.{_≡_}
 use Prim.Native.Nat.{ℕ, _<_, _≤_}
 use lib.ListN.{getD, length}
+use Rattle.sets.specs.Sets.{size}
 use Rattle.tables.specs.Index.{C}
 use Rattle.trees.specs.Trees.{Tree}
 use Rattle.bodies.specs.Draws.{bodyOf}
 use Rattle.bodies.specs.Nodes.{Good, nodes, roomFor}
 use Rattle.newick.specs.Texts.{Readable}
 use Rattle.answers.specs.Inputs.{Body, Count, Table}
+use Rattle.outside.specs.Reaches.{Enclosed}
+use Rattle.building.specs.GoodSet.{GoodSet}
 use Rattle.collections.specs.Collection.{Collection}
 use Rattle.collections.specs.Layout.{species}
 use Rattle.entering.specs.Enters.{left, outer, right}
@@ -41,11 +44,13 @@ pub record Orderable (n : ℕ) (b o : List ℕ) : Type 0 where
   pub body : Body n b
   pub room : length b ≤ length o
 
--- "Build: 2, 7, 8, 9 (room under 4n - 2 bytes)"
-pub record Buildable (n : ℕ) (t o : List ℕ) : Type 0 where
+-- "Build: 2, 7, 8, 9"; request T-03: "in the build after 8 and before 9: 15 [..]; 16"; "Room becomes 4s - 2 bytes for s species in the set"
+pub record Buildable (n s : ℕ) (t o : List ℕ) : Type 0 where
   pub count : Count n
   pub table : Table n t
-  pub room : roomFor n ≤ length o
+  pub set : GoodSet n s
+  pub enclosed : Enclosed n s t
+  pub room : roomFor (size s) ≤ length o
 
 -- "Check: 2, 7, 8, 5, 6"
 pub record Checkable (n : ℕ) (t b : List ℕ) : Type 0 where

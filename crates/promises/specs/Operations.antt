@@ -36,9 +36,9 @@ Enterer = ℕ → List (List ℕ) → List ℕ → Given
 abbrev pub Orderer : Type 0
 Orderer = ℕ → List ℕ → List ℕ → Given
 
--- from n, a table, and lent room
+-- from n, a set of species, a table, and lent room
 abbrev pub Builder : Type 0
-Builder = ℕ → List ℕ → List ℕ → Given
+Builder = ℕ → ℕ → List ℕ → List ℕ → Given
 
 -- from n, a Newick text, and lent room
 abbrev pub Parser : Type 0
@@ -77,7 +77,7 @@ abbrev pub orders : Orderer
 orders n b o = record { told = orderTold (orderAnswer n b (length o)); after = orderAfter n b o }
 
 abbrev pub builds : Builder
-builds n t o = record { told = buildTold (buildAnswer n t (length o)); after = buildAfter n t o }
+builds n s t o = record { told = buildTold (buildAnswer n s t (length o)); after = buildAfter n s t o }
 
 abbrev pub checks : Checker
 checks n t b = checkTold (checkAnswer n t b)

@@ -1,9 +1,10 @@
 -- What is said of the operations together.
 use mathlib.Core.List.{List, [], _∷_}
-use mathlib.Core.Logic.{_⊎_}
+use mathlib.Core.Logic.{_↔_, _≢_, _⊎_}
 use mathlib.Core.Path.{_≡_}
 use Prim.Native.Nat.{ℕ}
-use Rattle.answers.specs.Answers.{node-count, told, value}
+use Rattle.answers.specs.Answers.{node-count, occurring-set, species-count, told, tree-count, value}
+use Rattle.collections.specs.Layout.{species, trees}
 use Rattle.promises.specs.Operations.{Operations}
 use Rattle.promises.specs.Accepts.{Accepts}
 use Rattle.promises.specs.Demand1.{Demand1}
@@ -20,5 +21,15 @@ RefusesBadAlone = (L : Operations) → Demand1 L → Accepts L
 
 -- where the build answers 0 with m nodes, the check of their bytes against the same table answers 0 or 12
 abbrev pub BuiltChecked : Operations → Type 0
-BuiltChecked L = (n m : ℕ) (t o : List ℕ) → L .build n t o .told ≡ told 0 (value node-count m ∷ [])
-    → (L .check n t (front m (L .build n t o .after)) .number ≡ 0) ⊎ (L .check n t (front m (L .build n t o .after)) .number ≡ 12)
+BuiltChecked L = (n s m : ℕ) (t o : List ℕ) → L .build n s t o .told ≡ told 0 (value node-count m ∷ [])
+    → (L .check n t (front m (L .build n s t o .after)) .number ≡ 0) ⊎ (L .check n t (front m (L .build n s t o .after)) .number ≡ 12)
+
+-- a set u with a table t of n species is one that the build takes: 15 comes only where the set is empty, and 16 never
+pub record Taken (L : Operations) (n u : ℕ) (t : List ℕ) : Type 0 where
+  pub empty : (o : List ℕ) → (L .build n u t o .told .number ≡ 15) ↔ (u ≡ 0)
+  pub outside : (o : List ℕ) → L .build n u t o .told .number ≢ 16
+
+-- so is the set that occurs, as listing and entering return it, with the table that they fill
+pub record OccurringTaken (L : Operations) : Type 0 where
+  pub listed : (b t : List ℕ) (u : ℕ) → L .list b t .told ≡ told 0 (value species-count (species b) ∷ value tree-count (trees b) ∷ value occurring-set u ∷ []) → Taken L (species b) u (L .list b t .after)
+  pub entered : (n : ℕ) (rs : List (List ℕ)) (t : List ℕ) (u : ℕ) → L .enter n rs t .told ≡ told 0 (value species-count n ∷ value occurring-set u ∷ []) → Taken L n u (L .enter n rs t .after)

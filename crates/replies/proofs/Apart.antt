@@ -15,7 +15,7 @@ use Rattle.answers.proofs.Answered.{number-zero}
 use Rattle.answers.specs.Refusals.{refusalTold}
 use Rattle.answers.specs.declared.Look.the-variants.{Pass, Refuse}
 use Rattle.answers.specs.declared.Refusal.{Refusal}
-use Rattle.answers.specs.declared.Refusal.the-variants.{BadByte, BadCounts, BadLength, BadRecord, BadTable, BadText, BadTree, BadVersion, Contradicted, EndsEarly, LeftOver, NoTree, ShortRoom, Unforced}
+use Rattle.answers.specs.declared.Refusal.the-variants.{BadByte, BadCounts, BadLength, BadRecord, BadSet, BadTable, BadText, BadTree, BadVersion, Contradicted, EndsEarly, LeftOver, NoTree, Outside, ShortRoom, Unforced}
 use Rattle.collections.specs.Reads.{readTold}
 use Rattle.collections.specs.declared.Answer as Reading
 use Rattle.entering.specs.Enters.{enterTold}
@@ -72,7 +72,9 @@ refusalIn p =
     (cond (eqb (p .number) 11) (Contradicted (record { index = numberAt 0 p; byte = numberAt 1 p }))
     (cond (eqb (p .number) 12) (Unforced (numberAt 0 p))
     (cond (eqb (p .number) 13) (BadRecord (numberAt 0 p))
-    (BadText (numberAt 0 p))))))))))))))
+    (cond (eqb (p .number) 14) (BadText (numberAt 0 p))
+    (cond (eqb (p .number) 15) BadSet
+    (Outside (numberAt 0 p))))))))))))))))
 
 refusal-found : (x : Refusal) → refusalIn (plain (refusalTold x)) ≡ x
 refusal-found BadVersion = refl
@@ -89,6 +91,8 @@ refusal-found (Contradicted x) = refl
 refusal-found (Unforced i) = refl
 refusal-found (BadRecord i) = refl
 refusal-found (BadText p) = refl
+refusal-found BadSet = refl
+refusal-found (Outside i) = refl
 
 pub refusal-apart : ToldApart refusalTold
 refusal-apart = found-apart (λ (x : Refusal). plain (refusalTold x)) refusalIn refusal-found
@@ -110,7 +114,7 @@ module _ {A : Type 0} (done : Plain → A) (refused : Refusal → A) where
 
 -- reading, and listing
 abbrev readBack : Plain → Reading.Answer
-readBack p = Reading.the-variants.Done (record { n = numberAt 0 p; trees = numberAt 1 p })
+readBack p = Reading.the-variants.Done (record { n = numberAt 0 p; trees = numberAt 1 p; set = numberAt 2 p })
 
 read-found : (a : Reading.Answer) → answerIn readBack Reading.the-variants.Refused (plain (readTold a)) ≡ a
 read-found (Reading.the-variants.Done w) = refl
@@ -120,7 +124,7 @@ pub read-apart : ToldApart readTold
 read-apart = found-apart (λ (a : Reading.Answer). plain (readTold a)) (answerIn readBack Reading.the-variants.Refused) read-found
 
 abbrev enterBack : Plain → Entering.Answer
-enterBack p = Entering.the-variants.Done (record { n = numberAt 0 p })
+enterBack p = Entering.the-variants.Done (record { n = numberAt 0 p; set = numberAt 1 p })
 
 enter-found : (a : Entering.Answer) → answerIn enterBack Entering.the-variants.Refused (plain (enterTold a)) ≡ a
 enter-found (Entering.the-variants.Done w) = refl
@@ -181,17 +185,23 @@ check-apart = found-apart (λ (a : Checking.Answer). plain (checkTold a)) (answe
 
 -- ---- replies
 
+-- three items: the third is a value, or the rule that is broken
+abbrev threeIn : Plain → Item → Reply
+threeIn p (plain-number z) = Replies.Three (p .number) (numberAt 0 p) (numberAt 1 p) z
+threeIn p (broken-rule f) = Replies.Broken (brokenIn p)
+
 abbrev replyIn : Plain → Reply
 replyIn p =
     cond (eqb (length (p .items)) 0) (Replies.Bare (p .number))
     (cond (eqb (length (p .items)) 1) (Replies.One (p .number) (numberAt 0 p))
     (cond (eqb (length (p .items)) 2) (Replies.Two (p .number) (numberAt 0 p) (numberAt 1 p))
-    (Replies.Broken (brokenIn p))))
+    (threeIn p (getD (p .items) 2 (plain-number 0)))))
 
 reply-found : (r : Reply) → replyIn (replied r) ≡ r
 reply-found (Replies.Bare k) = refl
 reply-found (Replies.One k x) = refl
 reply-found (Replies.Two k x y) = refl
+reply-found (Replies.Three k x y z) = refl
 reply-found (Replies.Broken x) = refl
 
 pub replied-apart : Apart replied

@@ -11,11 +11,12 @@ ghost use Rattle.checking.specs.Checks.{checkTold};
 ghost use Rattle.replies.specs.Plain.{plain};
 ghost use Rattle.replies.specs.Replied.{replied};
 
-// A number alone, with one value, with two, and refusal 6.
+// A number alone, with one value, with two, with three, and refusal 6.
 pub enum Reply {
     Bare(usize),
     One(usize, usize),
     Two(usize, usize, usize),
+    Three(usize, usize, usize, usize),
     Broken(bodies::Broken),
 }
 
@@ -38,6 +39,8 @@ fn refusal(x: answers::Refusal) -> Reply
         answers::Refusal::Unforced(i) => Reply::One(12, i),
         answers::Refusal::BadRecord(i) => Reply::One(13, i),
         answers::Refusal::BadText(p) => Reply::One(14, p),
+        answers::Refusal::BadSet => Reply::Bare(15),
+        answers::Refusal::Outside(i) => Reply::One(16, i),
     }
 }
 
@@ -46,7 +49,7 @@ pub fn read(a: collections::Answer) -> Reply
     ensures { λ r. ⌜ replied r ≡ plain (readTold a) ⌝ }
 {
     match a {
-        collections::Answer::Done(c) => Reply::Two(0, c.n, c.trees),
+        collections::Answer::Done(c) => Reply::Three(0, c.n, c.trees, c.set as usize),
         collections::Answer::Refused(x) => refusal(x),
     }
 }
@@ -56,7 +59,7 @@ pub fn enter(a: entering::Answer) -> Reply
     ensures { λ r. ⌜ replied r ≡ plain (enterTold a) ⌝ }
 {
     match a {
-        entering::Answer::Done(e) => Reply::One(0, e.n),
+        entering::Answer::Done(e) => Reply::Two(0, e.n, e.set as usize),
         entering::Answer::Refused(x) => refusal(x),
     }
 }

@@ -9,6 +9,7 @@ use Rattle.answers.specs.Looks.{firstRefusal}
 use Rattle.answers.specs.declared.Look.{Look}
 use Rattle.answers.specs.declared.Look.the-variants.{Pass, Refuse}
 use Rattle.answers.specs.declared.Refusal.the-variants.{NoTree, Unforced}
+use Rattle.sets.specs.Sets.{upto}
 use Rattle.building.specs.Builds.{lookOutcome, outcome}
 use Rattle.checking.specs.Checks.{triplesLooks}
 
@@ -22,8 +23,8 @@ pub data Run : Type 0 where
 
 abbrev pub Holds : List Run → Type 0
 Holds [] = Unit {0}
-Holds (builds n t T ∷ l) = (outcome n t ≡ tree T) × Holds l
-Holds (stops n t u ∷ l) = (lookOutcome (outcome n t) ≡ Refuse (NoTree u)) × Holds l
+Holds (builds n t T ∷ l) = (outcome n (upto n) t ≡ tree T) × Holds l
+Holds (stops n t u ∷ l) = (lookOutcome (outcome n (upto n) t) ≡ Refuse (NoTree u)) × Holds l
 Holds (checks n t T k ∷ l) = (firstRefusal (triplesLooks n t T) ≡ k) × Holds l
 
 -- 12 at index i

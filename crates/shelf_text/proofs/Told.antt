@@ -65,14 +65,14 @@ refused-build : (n : ℕ) (t o : List ℕ) (a : Building.Answer) → OneOf (1 �
 refused-build n t o (Building.the-variants.Done w) h = absurd (miss (1 ∷ []) 0 tt h)
 refused-build n t o (Building.the-variants.Refused x) h = refl
 
-module _ (n : ℕ) (t o x : List ℕ) (a : Building.Answer) (p : x ≡ buildNumbers a) (q : a ≡ buildAnswer n t longest) (h : o ≡ buildAfter n t (replicate longest 0)) where
-  built-told : line build-word x ++ behindText n t o a ≡ tableText n t
+module _ (n s : ℕ) (t o x : List ℕ) (a : Building.Answer) (p : x ≡ buildNumbers a) (q : a ≡ buildAnswer n s t longest) (h : o ≡ buildAfter n s t (replicate longest 0)) where
+  built-told : line build-word x ++ behindText n t o a ≡ tableText n s t
   built-told = rw (p, h, q) refl
 
-  pub done-told : (w : Written) (k : ℕ) → a ≡ Building.the-variants.Done w → k ≡ bodyLength (w .nodes) → line build-word x ++ bodyText n t (take k o) ≡ tableText n t
+  pub done-told : (w : Written) (k : ℕ) → a ≡ Building.the-variants.Done w → k ≡ bodyLength (w .nodes) → line build-word x ++ bodyText n t (take k o) ≡ tableText n s t
   done-told w k e h = rw h (ap (λ (z : Building.Answer). line build-word x ++ behindText n t o z) (sym e) ∙ built-told)
 
-  pub refused-told : OneOf (1 ∷ []) (tagOf building a) → line build-word x ≡ tableText n t
+  pub refused-told : OneOf (1 ∷ []) (tagOf building a) → line build-word x ≡ tableText n s t
   refused-told k = sym (append-nil (line build-word x)) ∙ ap (λ (z : List ℕ). line build-word x ++ z) (sym (refused-build n t o a k)) ∙ built-told
 
 -- ---- the collection
@@ -91,13 +91,13 @@ module _ (b : List ℕ) where
     unfolding shelfText
     shelf-refused x e k = ap (line read-word) e ∙ refused-read a k ∙ ap (readText b) p
 
-    pub shelf-listed : (c : Counts) → a ≡ Reading.the-variants.Done c → tableText (c .n) (listOf b) ≡ shelfText b
+    pub shelf-listed : (c : Counts) → a ≡ Reading.the-variants.Done c → tableText (c .n) (c .set) (listOf b) ≡ shelfText b
     unfolding shelfText
     shelf-listed c q =
         let d = read-done b c (sym p ∙ q) in
         let z : List ℕ = replicate (C (c .n) 3) 0 in
         let e : length z ≡ C (species b) 3 = length-replicate (C (c .n) 3) 0 ∙ ap (λ (k : Counts). C (k .n) 3) (d .0) in
-        ap (tableText (c .n)) (sym (list-whole (d .1) z e)) ∙ ap (readText b) (sym q ∙ p)
+        ap (tableText (c .n) (c .set)) (sym (list-whole (d .1) z e)) ∙ ap (readText b) (sym q ∙ p)
 
   pub shelf-written : (o w o′ : List ℕ) (r : ℕ) → length o ≡ 8192 → w ≡ shelfText b → Writes o 0 w o′ r
       → (take r o′ ≡ shelfText b) × (r ≤ 8192) × (length o′ ≡ 8192)

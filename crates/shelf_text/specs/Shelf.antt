@@ -77,13 +77,13 @@ behindText n t o (Building.the-variants.Refused x) = []
 abbrev pub builtText : ℕ → List ℕ → List ℕ → Building.Answer → List ℕ
 builtText n t o a = line build-word (buildNumbers a) ++ behindText n t o a
 
--- from a table of n species: a room of zeros that holds the longest body
-abbrev pub tableText : ℕ → List ℕ → List ℕ
-tableText n t = builtText n t (buildAfter n t (replicate longest 0)) (buildAnswer n t longest)
+-- from a table of n species, over the set s: a room of zeros that holds the longest body
+abbrev pub tableText : ℕ → ℕ → List ℕ → List ℕ
+tableText n s t = builtText n t (buildAfter n s t (replicate longest 0)) (buildAnswer n s t longest)
 
--- once the collection b was read; its table was zeros before
+-- once the collection b was read; its table was zeros before. Request T-03: the build is over the set that occurs, "where no species occurs it prints only `build 15`"
 abbrev pub readText : List ℕ → Reading.Answer → List ℕ
-readText b (Reading.the-variants.Done c) = tableText (c .n) (listAfter b (replicate (C (c .n) 3) 0))
+readText b (Reading.the-variants.Done c) = tableText (c .n) (c .set) (listAfter b (replicate (C (c .n) 3) 0))
 readText b (Reading.the-variants.Refused x) = line read-word (readNumbers (Reading.the-variants.Refused x))
 
 unfoldable pub shelfText : List ℕ → List ℕ

@@ -84,6 +84,7 @@ fn unread(s: replies::Reply) -> LineNumbers
         replies::Reply::Bare(k) => LineNumbers::Three(k as u64, 0, 0),
         replies::Reply::One(k, x) => LineNumbers::Three(k as u64, tree(k, x), 0),
         replies::Reply::Two(k, _, _) => LineNumbers::Three(k as u64, 0, 0),
+        replies::Reply::Three(k, x, y, _) => LineNumbers::Three(k as u64, x as u64, y as u64),
         replies::Reply::Broken(b) => LineNumbers::Three(6, b.tree as u64, b.node as u64),
     }
 }
@@ -96,6 +97,7 @@ fn shown(s: replies::Reply) -> LineNumbers
         replies::Reply::Bare(k) => LineNumbers::One(k as u64),
         replies::Reply::One(k, x) => LineNumbers::Two(k as u64, x as u64),
         replies::Reply::Two(k, x, _) => LineNumbers::Two(k as u64, x as u64),
+        replies::Reply::Three(k, x, _, _) => LineNumbers::Two(k as u64, x as u64),
         replies::Reply::Broken(b) => LineNumbers::Two(6, b.tree as u64),
     }
 }
@@ -132,13 +134,13 @@ fn body_lines(out: &mut [u8], at: usize, n: usize, t: &[u8], body: &[u8]) -> usi
     )
 }
 
-// Builds the table's tree, and writes what comes of it.
-fn build_lines(out: &mut [u8], n: usize, t: &[u8]) -> usize
+// Builds the tree of a set of species, of the table t, and writes what comes of it.
+fn build_lines(out: &mut [u8], n: usize, set: u64, t: &[u8]) -> usize
     requires { ⌜ 8192 ≤ length (now out) ⌝ }
-    ensures { λ r. ⌜ Writes (now (out .entry)) 0 (tableText n (now (t .entry))) (now (out .exit)) r ⌝ }
+    ensures { λ r. ⌜ Writes (now (out .entry)) 0 (tableText n set (now (t .entry))) (now (out .exit)) r ⌝ }
 {
     let mut room = [0; bodies::LONGEST];
-    let a = building::build(n, t, &mut room);
+    let a = building::build(n, set, t, &mut room);
     let next = put_line(out, 0, b"build", build_numbers(a));
     match a {
         building::Answer::Done(w) => {
@@ -149,15 +151,15 @@ fn build_lines(out: &mut [u8], n: usize, t: &[u8]) -> usize
     }
 }
 
-// Lists a collection that can be read, and goes on with its table.
-fn listed_lines(out: &mut [u8], b: &[u8], n: usize, table: &mut [u8]) -> usize
+// Lists a collection that can be read, and goes on with its table, over a set of species.
+fn listed_lines(out: &mut [u8], b: &[u8], n: usize, set: u64, table: &mut [u8]) -> usize
     requires { ⌜ (8192 ≤ length (now out)) × (length (now table) ≡ 41664) ⌝ }
     requires { ⌜ Collection (now b) × (n ≡ species (now b)) ⌝ }
-    ensures { λ r. ⌜ Writes (now (out .entry)) 0 (tableText n (listOf (now (b .entry)))) (now (out .exit)) r ⌝ }
+    ensures { λ r. ⌜ Writes (now (out .entry)) 0 (tableText n set (listOf (now (b .entry)))) (now (out .exit)) r ⌝ }
 {
     let k = tables::table_length(n);
     listing::list(b, &mut table[..k]);
-    build_lines(out, n, &table[..k])
+    build_lines(out, n, set, &table[..k])
 }
 
 // Writes what `shelf` prints of a collection, and answers how long it is. What the table held does not matter.
@@ -167,7 +169,7 @@ pub fn shelf(b: &[u8], table: &mut [u8; 41664], out: &mut [u8; 8192]) -> usize
 {
     let a = collections::read(b);
     match a {
-        collections::Answer::Done(c) => listed_lines(out, b, c.n, table),
+        collections::Answer::Done(c) => listed_lines(out, b, c.n, c.set, table),
         _ => put_line(out, 0, b"read", read_numbers(a)),
     }
 }

@@ -1,12 +1,11 @@
--- A tree with every species is known by its table: two such trees have the same table exactly when they have the same groups. Assumes nothing.
+-- A tree is known by its table: two trees with exactly the species of one set have the same table exactly when they have the same groups. Assumes nothing.
 use mathlib.Core.Bool.{So}
 use mathlib.Core.List.{List}
 use mathlib.Core.Logic.{_↔_}
 use mathlib.Core.Path.{_∙_, _≡_, ap, fun-ext, sym}
 use Prim.Native.Nat.{_<_, ℕ}
-use borrow.Author.Tests.{ltb-true}
 use Rattle.sets.proofs.Bools.{bool-ext}
-use Rattle.sets.specs.Species.{below}
+use Rattle.sets.specs.Species.{Below, Species}
 use Rattle.trees.proofs.Splits.{holds-e, holds-proper}
 use Rattle.trees.proofs.Theorems.{known-by-triplets}
 use Rattle.trees.specs.Trees.{SameGroups, Tree, under, wellFormed}
@@ -15,11 +14,11 @@ use Rattle.tables.proofs.Fillings.{table-says}
 use Rattle.tables.specs.Bytes.{entered}
 use Rattle.tables.specs.Filled.{tableFor}
 
-module _ (n : ℕ) (t t′ : Tree) (f : So (wellFormed t)) (f′ : So (wellFormed t′)) (s : (x : ℕ) → under t x ≡ below n x) (s′ : (x : ℕ) → under t′ x ≡ below n x) where
-  within : (u : Tree) → ((x : ℕ) → under u x ≡ below n x) → (a b c : ℕ) → So (holds u a b c) → (a < n) × (b < n) × (c < n)
-  within u e a b c h = let o = holds-e u a b c h in (ltb-true a n (sym (e a) ∙ o .in-a), ltb-true b n (sym (e b) ∙ o .in-b), ltb-true c n (sym (e c) ∙ o .in-c))
+module _ (n : ℕ) (S : Species) (bd : Below n S) (t t′ : Tree) (f : So (wellFormed t)) (f′ : So (wellFormed t′)) (s : (x : ℕ) → under t x ≡ S x) (s′ : (x : ℕ) → under t′ x ≡ S x) where
+  within : (u : Tree) → ((x : ℕ) → under u x ≡ S x) → (a b c : ℕ) → So (holds u a b c) → (a < n) × (b < n) × (c < n)
+  within u e a b c h = let o = holds-e u a b c h in (bd a (sym (e a) ∙ o .in-a), bd b (sym (e b) ∙ o .in-b), bd c (sym (e c) ∙ o .in-c))
 
-  over-to : (u v : Tree) → ((x : ℕ) → under u x ≡ below n x) → tableFor n (holds u) ≡ tableFor n (holds v) → (a b c : ℕ) → So (holds u a b c) → So (holds v a b c)
+  over-to : (u v : Tree) → ((x : ℕ) → under u x ≡ S x) → tableFor n (holds u) ≡ tableFor n (holds v) → (a b c : ℕ) → So (holds u a b c) → So (holds v a b c)
   over-to u v e q a b c h =
       let w = within u e a b c h in
       sym (sym (table-says n (holds u) (holds-proper u) a b c (w .0) (w .1) (w .2)) ∙ ap (λ (x : List ℕ). entered x a b c) q ∙ table-says n (holds v) (holds-proper v) a b c (w .0) (w .1) (w .2)) ∙ h

@@ -15,12 +15,12 @@ use Rattle.calls.specs.declared.input.Input.{Input}
 
 module _ {o o′ : List ℕ} {at r : ℕ} where
   -- a byte that is this one has its line
-  pub line-same : (k j n : ℕ) (x y : List ℕ) → k ≡ j → Writes o at (callLine j n x y) o′ r → Writes o at (callLine k n x y) o′ r
-  line-same k j n x y e w = subst (λ (z : ℕ). Writes o at (callLine z n x y) o′ r) (sym e) w
+  pub line-same : (k j n m : ℕ) (x y : List ℕ) → k ≡ j → Writes o at (callLine j n m x y) o′ r → Writes o at (callLine k n m x y) o′ r
+  line-same k j n m x y e w = subst (λ (z : ℕ). Writes o at (callLine z n m x y) o′ r) (sym e) w
 
   -- one that is none of these has that of the check
-  pub line-check : (k n : ℕ) (x y : List ℕ) → (k ≡ 114 → ⊥) → (k ≡ 108 → ⊥) → (k ≡ 101 → ⊥) → (k ≡ 111 → ⊥) → (k ≡ 98 → ⊥) → (k ≡ 110 → ⊥) → (k ≡ 119 → ⊥) → Writes o at (checkLine n x y) o′ r → Writes o at (callLine k n x y) o′ r
-  line-check k n x y a l e h b p d w = rw (ne-eqb k 114 a, ne-eqb k 108 l, ne-eqb k 101 e, ne-eqb k 111 h, ne-eqb k 98 b, ne-eqb k 110 p, ne-eqb k 119 d) w
+  pub line-check : (k n m : ℕ) (x y : List ℕ) → (k ≡ 114 → ⊥) → (k ≡ 108 → ⊥) → (k ≡ 101 → ⊥) → (k ≡ 111 → ⊥) → (k ≡ 98 → ⊥) → (k ≡ 110 → ⊥) → (k ≡ 119 → ⊥) → Writes o at (checkLine n x y) o′ r → Writes o at (callLine k n m x y) o′ r
+  line-check k n m x y a l e h b p d w = rw (ne-eqb k 114 a, ne-eqb k 108 l, ne-eqb k 101 e, ne-eqb k 111 h, ne-eqb k 98 b, ne-eqb k 110 p, ne-eqb k 119 d) w
 
 module _ (c : Call) (x y : List ℕ) where
   pub made-none : c .begun ≡ false → [] ≡ madeLine c x y
@@ -29,7 +29,7 @@ module _ (c : Call) (x y : List ℕ) where
   pub made-cut : c .begun ≡ true → c .left .whole ≡ false → cut-line ≡ madeLine c x y
   made-cut b w = rw (b, w) refl
 
-  pub made-whole : c .begun ≡ true → c .left .whole ≡ true → callLine (c .byte) (getD (c .numbers) 0 0) x y ≡ madeLine c x y
+  pub made-whole : c .begun ≡ true → c .left .whole ≡ true → callLine (c .byte) (getD (c .numbers) 0 0) (getD (c .numbers) 1 0) x y ≡ madeLine c x y
   made-whole b w = rw (b, w) refl
 
   made-else : (t : Bool) → c .begun ≡ t → c .left .whole ≡ false → (madeLine c x y ≡ cut-line) ⊎ (madeLine c x y ≡ [])

@@ -14,14 +14,14 @@ use Rattle.trial.specs.Records.{recordsOf}
 use Rattle.calls.specs.declared.Call.{Call}
 use Rattle.calls.specs.declared.input.Input.{Input}
 
--- the line of a call with the byte k, the number n, and the fields x and y: r reads, l lists, e enters, o puts in house order, b builds, n reads a Newick text, w writes one, and c, the last one, checks
-abbrev pub callLine : ℕ → ℕ → List ℕ → List ℕ → List ℕ
-callLine k n x y =
+-- the line of a call with the byte k, the numbers n and m, and the fields x and y: r reads, l lists, e enters, o puts in house order, b builds over the set m, n reads a Newick text, w writes one, and c, the last one, checks
+abbrev pub callLine : ℕ → ℕ → ℕ → List ℕ → List ℕ → List ℕ
+callLine k n m x y =
     cond (eqb k 114) (readLine x) (
     cond (eqb k 108) (listLine x y) (
     cond (eqb k 101) (enterLine n (recordsOf x) y) (
     cond (eqb k 111) (orderLine n x y) (
-    cond (eqb k 98) (buildLine n x y) (
+    cond (eqb k 98) (buildLine n m x y) (
     cond (eqb k 110) (parseLine n x y) (
     cond (eqb k 119) (renderLine n x y) (checkLine n x y)))))))
 
@@ -31,7 +31,7 @@ cut-line = 99 ∷ 117 ∷ 116 ∷ 10 ∷ []
 
 -- what is written for the call c: of one that has not begun nothing, and `cut` of one that is not whole
 abbrev pub madeLine : Call → List ℕ → List ℕ → List ℕ
-madeLine c x y = cond (c .begun) (cond (c .left .whole) (callLine (c .byte) (getD (c .numbers) 0 0) x y) cut-line) []
+madeLine c x y = cond (c .begun) (cond (c .left .whole) (callLine (c .byte) (getD (c .numbers) 0 0) (getD (c .numbers) 1 0) x y) cut-line) []
 
 -- of a call that was read into longer fields: how long each is the call says
 abbrev pub callText : Call → List ℕ → List ℕ → List ℕ
@@ -52,7 +52,7 @@ pub record MadeFrom (i : Input) (b : List ℕ) (i′ : Input) (b′ w : List ℕ
   pub first : List ℕ
   pub second : List ℕ
   pub call : CallBytes byte numbers first second bytes
-  pub line : w ≡ callLine byte (getD numbers 0 0) first second
+  pub line : w ≡ callLine byte (getD numbers 0 0) (getD numbers 1 0) first second
 
 -- so it is with the text that now stands behind what waited, where all of the call was there; else the text is `cut`, or nothing
 pub record OneCall (i : Input) (b : List ℕ) (i′ : Input) (b′ o : List ℕ) (len : ℕ) (o′ : List ℕ) (r : ℕ) : Type 0 where

@@ -52,6 +52,7 @@ fn enter_line(
 fn call_line(
     byte: u8,
     n: usize,
+    m: usize,
     first: &[u8],
     second: &mut [u8],
     records: &mut [[u8; 3]],
@@ -59,14 +60,14 @@ fn call_line(
     at: usize,
 ) -> usize
     requires { ⌜ (at + 4 * length (now second) + 100 ≤ length (now out)) × (length (now first) / 3 ≤ length (now records)) ⌝ }
-    ensures { λ r. ⌜ Writes (now (out .entry)) at (callLine byte n (now (first .entry)) (now (second .entry))) (now (out .exit)) r ⌝ }
+    ensures { λ r. ⌜ Writes (now (out .entry)) at (callLine byte n m (now (first .entry)) (now (second .entry))) (now (out .exit)) r ⌝ }
 {
     match byte {
         b'r' => lines::read_line(out, at, first),
         b'l' => lines::list_line(out, at, first, second),
         b'e' => enter_line(out, at, n, first, records, second),
         b'o' => lines::order_line(out, at, n, first, second),
-        b'b' => lines::build_line(out, at, n, first, second),
+        b'b' => lines::build_line(out, at, n, m as u64, first, second),
         b'n' => lines::parse_line(out, at, n, first, second),
         b'w' => lines::render_line(out, at, n, first, second),
         _ => lines::check_line(out, at, n, first, second),
@@ -86,6 +87,7 @@ fn line(
     ensures { λ r. ⌜ Writes (now (out .entry)) at (madeLine c (now (first .entry)) (now (second .entry))) (now (out .exit)) r ⌝ }
 {
     let n = c.numbers[0];
+    let m = c.numbers[1];
     let left = c.left;
     if !c.begun {
         return at;
@@ -93,7 +95,7 @@ fn line(
     if !left.whole {
         return writing::put_word(out, at, b"cut\n");
     }
-    call_line(c.byte, n, first, second, records, out, at)
+    call_line(c.byte, n, m, first, second, records, out, at)
 }
 
 // Prints the text that waits, where the next line may not fit behind it.

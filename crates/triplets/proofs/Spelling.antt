@@ -1,7 +1,7 @@
 -- The named form: the turns of the search for the first bad triplet, and those of the filling. Assumes nothing.
 use mathlib.Core.Bool.{So, and-false, false}
 use mathlib.Core.List.{List, [], _∷_, map}
-use mathlib.Core.Path.{_∙_, _≡_, ap, refl, subst, sym}
+use mathlib.Core.Path.{_∙_, _≡_, ap, ap₂, refl, subst, sym}
 use Prim.Native.Nat.{_+_, _<_, _≤_, suc, zero, ℕ}
 use native.Mathlib.Numerals.{add-one}
 use native.Mathlib.Omega.{arith}
@@ -10,12 +10,13 @@ use lib.Dec.{ltb}
 use lib.ListN.{drop, drop-of-length-le, getD, length, length-map}
 use lib.Seq.{drop-cons}
 use Rattle.sets.proofs.Bools.{test}
+use Rattle.entering.proofs.Gathering.{gathered-fills, gathered-more, gathered-none, gathered-ready}
 use Rattle.entering.proofs.Records.{first-no, first-yes, firstBad-none}
 use Rattle.entering.specs.declared.Answer.{Answer}
 use Rattle.entering.specs.declared.Answer.the-variants.{Done, Refused}
 use Rattle.triplets.specs.declared.Triplet.{Triplet}
 use Rattle.entering.specs.Enters.{badRecord, fill, firstBad}
-use Rattle.entering.specs.Passes.{Ready, filled}
+use Rattle.entering.specs.Passes.{Ready, filled, gathered}
 use Rattle.triplets.specs.Spelled.{nearer, spelled}
 
 -- ---- the search
@@ -84,13 +85,16 @@ module _ (us : List Triplet) (i : ℕ) (d : Triplet) where
   filled-next (Done e) t l = sym (ap (λ (vs : List Triplet). fill (map spelled vs) t) (cut l))
   filled-next (Refused x) t l = refl
 
-  pub ready-at : (r : Answer) (t t′ : List ℕ) → Ready r (map spelled us) t → length t′ ≡ length t → i < length us → Ready r (spelled (getD us i d) ∷ []) t′
+  gathered-next : (r : Answer) → i < length us → gathered (gathered r (spelled (getD us i d) ∷ [])) (map spelled (drop (i + 1) us)) ≡ gathered r (map spelled (drop i us))
+  gathered-next r l = gathered-more r (spelled (getD us i d)) (map spelled (drop (i + 1) us)) ∙ sym (ap (λ (vs : List Triplet). gathered r (map spelled vs)) (cut l))
+
+  pub ready-at : (r : Answer) (t : List ℕ) → Ready r (map spelled us) t → i < length us → Ready r (spelled (getD us i d) ∷ []) t
   unfolding firstBad
-  ready-at r t t′ h l s = record {
+  ready-at r t h s = record {
     is = λ e q.
         let p = h .is e q in
         let g = firstBad-none (e .n) (map spelled us) (p .2) i (omega (arith, length-map us spelled)) in
-        (p .0, l ∙ p .1, first-no (e .n) (spelled (getD us i d)) [] (subst (λ (v : List ℕ). badRecord (e .n) v ≡ false) (spelled-at us i d s) g));
+        (p .0, p .1, first-no (e .n) (spelled (getD us i d)) [] (subst (λ (v : List ℕ). badRecord (e .n) v ≡ false) (spelled-at us i d s) g));
   }
 
 pub search-end : (n : ℕ) (us : List Triplet) (i k : ℕ) → length us ≤ i → searched n (drop i us) i k ≡ k
@@ -102,28 +106,39 @@ unfolding filled fill
 filled-end us i (Done e) t h = ap (λ (vs : List Triplet). fill (map spelled vs) t) (drop-of-length-le us h)
 filled-end us i (Refused x) t h = refl
 
+gathered-end : (us : List Triplet) (i : ℕ) (r : Answer) → length us ≤ i → gathered r (map spelled (drop i us)) ≡ r
+gathered-end us i r h = ap (λ (vs : List Triplet). gathered r (map spelled vs)) (drop-of-length-le us h) ∙ gathered-none r
+
 -- ---- the filling half way: i triplets of us are done and `left` are left, with the answer s and the table t, from the answer r and the table t₀
 
 pub record Half (us : List Triplet) (r : Answer) (t₀ : List ℕ) (left i : ℕ) (s : Answer) (t : List ℕ) : Type 0 where
   pub count : i + left ≡ length us
-  pub same : s ≡ r
-  pub rest : filled r (map spelled (drop i us)) t ≡ filled r (map spelled us) t₀
+  pub ready : Ready s (map spelled us) t
+  pub answer : gathered s (map spelled (drop i us)) ≡ gathered r (map spelled us)
+  pub rest : filled s (map spelled (drop i us)) t ≡ filled r (map spelled us) t₀
   pub long : length t ≡ length t₀
 
-pub half-first : (us : List Triplet) (r : Answer) (t : List ℕ) → Half us r t (length us) 0 r t
-half-first us r t = record { count = omega arith; same = refl; rest = refl; long = refl }
+pub half-first : (us : List Triplet) (r : Answer) (t : List ℕ) → Ready r (map spelled us) t → Half us r t (length us) 0 r t
+half-first us r t h = record { count = omega arith; ready = h; answer = refl; rest = refl; long = refl }
 
 module _ {us : List Triplet} {r : Answer} {t₀ : List ℕ} {i : ℕ} {s : Answer} {t : List ℕ} where
-  pub half-last : Half us r t₀ 0 i s t → (s ≡ r) × (t ≡ filled r (map spelled us) t₀)
-  half-last h = (h .same, sym (filled-end us i r t (omega (arith, h .count))) ∙ h .rest)
+  pub half-last : Half us r t₀ 0 i s t → (s ≡ gathered r (map spelled us)) × (t ≡ filled r (map spelled us) t₀)
+  half-last h =
+      let l : length us ≤ i = omega (arith, h .count) in
+      (sym (gathered-end us i s l) ∙ h .answer, sym (filled-end us i s t l) ∙ h .rest)
 
-  pub half-ready : (d : Triplet) {left : ℕ} → Ready r (map spelled us) t₀ → Half us r t₀ (suc left) i s t → Ready s (spelled (getD us i d) ∷ []) t
-  half-ready d p h = subst (λ (a : Answer). Ready a (spelled (getD us i d) ∷ []) t) (sym (h .same)) (ready-at us i d r t₀ t p (h .long) (omega (arith, h .count)))
+  pub half-ready : (d : Triplet) {left : ℕ} → Half us r t₀ (suc left) i s t → Ready s (spelled (getD us i d) ∷ []) t
+  half-ready d h = ready-at us i d s t (h .ready) (omega (arith, h .count))
 
-  pub half-next : (d : Triplet) {left : ℕ} {q : Answer} {t′ : List ℕ} → Half us r t₀ (suc left) i s t → q ≡ s → t′ ≡ filled s (spelled (getD us i d) ∷ []) t → length t′ ≡ length t → Half us r t₀ left (i + 1) q t′
-  half-next d h e f l = record {
-    count = omega (arith, h .count);
-    same = e ∙ h .same;
-    rest = ap (filled r (map spelled (drop (i + 1) us))) (f ∙ ap (λ (a : Answer). filled a (spelled (getD us i d) ∷ []) t) (h .same)) ∙ filled-next us i d r t (omega (arith, h .count)) ∙ h .rest;
-    long = l ∙ h .long;
-  }
+  pub half-next : (d : Triplet) {left : ℕ} {q : Answer} {t′ : List ℕ} → Half us r t₀ (suc left) i s t → q ≡ gathered s (spelled (getD us i d) ∷ []) → t′ ≡ filled s (spelled (getD us i d) ∷ []) t → length t′ ≡ length t → Half us r t₀ left (i + 1) q t′
+  half-next d {left} {q} {t′} h e f l =
+      let k : i < length us = omega (arith, h .count) in
+      let x = spelled (getD us i d) ∷ [] in
+      let more = map spelled (drop (i + 1) us) in
+      record {
+        count = omega (arith, h .count);
+        ready = rw e (gathered-ready s x (map spelled us) t t′ (h .ready) l);
+        answer = ap (λ (a : Answer). gathered a more) e ∙ gathered-next us i d s k ∙ h .answer;
+        rest = ap₂ (λ (a : Answer) (v : List ℕ). filled a more v) e f ∙ gathered-fills s x more (filled s x t) ∙ filled-next us i d s t k ∙ h .rest;
+        long = l ∙ h .long;
+      }

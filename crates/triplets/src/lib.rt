@@ -2,7 +2,7 @@
 ghost use mathlib.Core.Path.{_≡_};
 ghost use mathlib.Core.List.{[], _∷_, map};
 ghost use Rattle.entering.specs.Enters.{firstBad, Enters};
-ghost use Rattle.entering.specs.Passes.{Ready, filled};
+ghost use Rattle.entering.specs.Passes.{Ready, filled, gathered};
 ghost use Rattle.triplets.specs.Spelled.{spelled, nearer};
 
 // A triplet by its species: ab|c. C has it as three bytes.
@@ -39,24 +39,28 @@ fn first_bad_triplet(n: usize, records: &[Triplet]) -> usize
     k
 }
 
-// Enters one triplet where nothing was refused, and hands the answer on.
+// Enters one triplet where nothing was refused, and hands the answer on with its species.
 fn put_triplet(x: Triplet, r: entering::Answer, table: &mut [u8]) -> entering::Answer
     requires { ⌜ Ready r (spelled x ∷ []) (now table) ⌝ }
-    ensures { λ q. ⌜ (q ≡ r) × (now (table .exit) ≡ filled r (spelled x ∷ []) (now (table .entry))) ⌝ }
+    ensures { λ q. ⌜ (q ≡ gathered r (spelled x ∷ [])) × (now (table .exit) ≡ filled r (spelled x ∷ []) (now (table .entry))) ⌝ }
 {
     match r {
         entering::Answer::Done(e) => {
-            tables::put(table, x.a as usize, x.b as usize, x.c as usize);
-            entering::Answer::Done(e)
+            let a = x.a as usize;
+            let b = x.b as usize;
+            let c = x.c as usize;
+            tables::put(table, a, b, c);
+            let set = entering::gather(e.set, a, b, c);
+            entering::Answer::Done(entering::Entry { n: e.n, set: set })
         }
         entering::Answer::Refused(y) => entering::Answer::Refused(y),
     }
 }
 
-// Enters all triplets where nothing was refused, and hands the answer on.
+// Enters all triplets where nothing was refused, and hands the answer on with their species.
 fn fill_triplets(r: entering::Answer, records: &[Triplet], table: &mut [u8]) -> entering::Answer
     requires { ⌜ Ready r (map spelled (now records)) (now table) ⌝ }
-    ensures { λ q. ⌜ (q ≡ r) × (now (table .exit) ≡ filled r (map spelled (now (records .entry))) (now (table .entry))) ⌝ }
+    ensures { λ q. ⌜ (q ≡ gathered r (map spelled (now (records .entry)))) × (now (table .exit) ≡ filled r (map spelled (now (records .entry))) (now (table .entry))) ⌝ }
 {
     let mut q = r;
     let mut i: usize = 0;

@@ -5,11 +5,12 @@ use Prim.Native.Nat.{ℕ}
 use borrow.Author.Needs.{needs}
 use borrow.Author.Tests.{le-ltb, lt-ltb}
 use lib.ListN.{length}
+use Rattle.sets.proofs.Tests.{number-empty}
 use Rattle.answers.proofs.Good.{count-pass}
 use Rattle.answers.specs.Looks.{lookCount}
 use Rattle.answers.specs.declared.Look.the-variants.{Pass}
 use Rattle.tables.specs.Bytes.{wrongLength}
-use Rattle.entering.specs.Enters.{decided}
+use Rattle.entering.specs.Enters.{decided, occursIn}
 use Rattle.entering.specs.Passes.{cleared}
 use Rattle.entering.proofs.decide.Statement.{statement}
 use Rattle.entering.proofs.decide.Tie as tie
@@ -69,12 +70,12 @@ same-length-3 : tie.Need-same-length-3
 same-length-3 c = search needs
 
 returns-4 : tie.Need-returns-4
-unfolding decided cleared
+unfolding decided cleared occursIn
 returns-4 c =
     let d = c .before .before in
     let l = d .before .before in
     let e = l .before in
-    (sym (rw (counted (e .before .before .before), fitting e, le-ltb _ _ (l .if2 .left)) refl), d .clear .ensures)
+    (sym (rw (counted (e .before .before .before), fitting e, le-ltb _ _ (l .if2 .left), number-empty 64) refl), d .clear .ensures)
 
 pub decide-spec : {M : Type 1} → statement M
 decide-spec =

@@ -5,8 +5,9 @@ use Prim.Native.Nat.{ℕ}
 use borrow.Author.Needs.{needs}
 use lib.ListN.{length}
 use Rattle.entering.specs.declared.Answer.{Answer}
+use Rattle.entering.specs.declared.Answer.the-variants.{Done}
 use Rattle.entering.specs.Enters.{Enters}
-use Rattle.entering.specs.Passes.{Ready, filled}
+use Rattle.entering.specs.Passes.{Ready, filled, gathered}
 use Rattle.entering.proofs.Answers.{passes-ready, passes-say}
 use Rattle.entering.proofs.enter.Statement.{statement}
 use Rattle.entering.proofs.enter.Tie as tie
@@ -31,10 +32,10 @@ module _ (c : tie.After-decide) where
   ready : Ready r rs t₁
   ready = passes-ready n rs t t₁ (length rs) (c .before .before .first-bad .result) r refl (c .before .before .first-bad .ensures) (c .decide .ensures .0) (c .decide .ensures .1)
 
-  says : (q : Answer) (t₂ : List ℕ) → r ≡ q → t₂ ≡ filled q rs t₁ → Enters n rs t q t₂
-  says q t₂ e f =
+  says : (a q : Answer) (t₂ : List ℕ) → r ≡ a → q ≡ gathered a rs → t₂ ≡ filled a rs t₁ → Enters n rs t q t₂
+  says a q t₂ e g f =
       passes-say n rs t t₁ (length rs) (c .before .before .first-bad .result) r refl (c .before .before .first-bad .ensures) (c .decide .ensures .0) (c .decide .ensures .1) q t₂
-      (sym e, f ∙ sym (ap (λ (a : Answer). filled a rs t₁) e))
+      (g ∙ sym (ap (λ (a : Answer). gathered a rs) e), f ∙ sym (ap (λ (a : Answer). filled a rs t₁) e))
 
 first-bad-requires : tie.Need-first-bad-requires
 first-bad-requires c κs = search needs
@@ -57,15 +58,18 @@ same-length : tie.Need-same-length
 same-length c = search needs
 
 returns : tie.Need-returns
-unfolding filled
-returns c = says (c .before .before .before .before .before .before .before .before .before) _ _ (c .before .before .before .before .before .r .given .1) (c .before .before .fill .ensures)
+unfolding filled gathered
+returns c =
+    let d = c .before .before .before .before .before .r .given in
+    let f = c .before .before .fill .ensures in
+    says (c .before .before .before .before .before .before .before .before .before) _ _ _ (d .1) (ap (λ (s : ℕ). Done (record { n = d .0 .0 .n; set = s })) (f .0)) (f .1)
 
 same-length-2 : tie.Need-same-length-2
 same-length-2 c = search needs
 
 returns-2 : tie.Need-returns-2
-unfolding filled
-returns-2 c = says (c .before .before .before .before .before) _ _ (c .before .r2 .given .1) refl
+unfolding filled gathered
+returns-2 c = says (c .before .before .before .before .before) _ _ _ (c .before .r2 .given .1) refl refl
 
 pub enter-spec : {M : Type 1} → statement M
 enter-spec =

@@ -8,13 +8,14 @@ use borrow.Author.Needs.{needs}
 use lib.ListN.{drop, length, length-replicate, replicate, take}
 use Rattle.bodies.specs.Nodes.{mostNodes}
 use Rattle.groups.specs.Groups.{cells}
+use Rattle.collections.proofs.Starts.{part-is, start-suc}
 use Rattle.collections.specs.Collection.{Collection}
 use Rattle.collections.specs.Layout.{bodyAt, species, trees}
 use Rattle.tables.proofs.Adding.{adds-table}
 use Rattle.tables.specs.Adds.{Adds}
 use Rattle.tables.specs.Filled.{byteFor}
 use Rattle.tables.specs.Index.{C}
-use Rattle.listing.proofs.Collected.{inside, part-good, part-in, part-is, held-next, held-none}
+use Rattle.listing.proofs.Collected.{inside, part-good, held-next, held-none}
 use Rattle.listing.specs.Lists.{heldUpTo}
 use Rattle.listing.proofs.fill.Statement.{statement}
 use Rattle.listing.proofs.fill.Tie as tie
@@ -60,10 +61,10 @@ module _ (c : tie.After-body-span Inv-loop μ-loop) where
   one-of = omega (arith, c .before .loop-test .taken, c .before .before .before .before .before .before .before .before .before .pre .2)
 
   from-to : c .body-span .result .start ≤ c .body-span .result .end
-  from-to = omega (arith, c .body-span .ensures .0, c .body-span .ensures .1, part-in b r k one-of)
+  from-to = omega (arith, c .body-span .ensures .0, c .body-span .ensures .1, start-suc b k)
 
   is-body : take (c .body-span .result .end - c .body-span .result .start) (drop (c .body-span .result .start) b) ≡ bodyAt b k
-  is-body = part-is b r k one-of (c .body-span .result .start) (c .body-span .result .end) (c .body-span .ensures .0) (c .body-span .ensures .1)
+  is-body = part-is b k (c .body-span .result .start) (c .body-span .result .end) (c .body-span .ensures .0) (c .body-span .ensures .1)
 
 sub-tree : tie.Need-sub-tree Inv-loop μ-loop
 sub-tree c = from-to c

@@ -38,8 +38,8 @@ enum-known-x-6 c = search needs
 enum-known-x-7 : tie.Need-enum-known-x-7
 enum-known-x-7 c = search needs
 
-cast-t14 : tie.Need-cast-t14
-cast-t14 c = search needs
+cast-t15 : tie.Need-cast-t15
+cast-t15 c = search needs
 
 enum-known-x-8 : tie.Need-enum-known-x-8
 enum-known-x-8 c = search needs
@@ -49,6 +49,12 @@ enum-known-x-9 c = search needs
 
 enum-known-x-10 : tie.Need-enum-known-x-10
 enum-known-x-10 c = search needs
+
+enum-told-5 : tie.Need-enum-told-5
+enum-told-5 c = search needs
+
+enum-known-x-11 : tie.Need-enum-known-x-11
+enum-known-x-11 c = search needs
 
 returns : tie.Need-returns
 returns c = reply-as refusalTold (c .enum-told .given .1)
@@ -92,6 +98,12 @@ returns-13 c = reply-as refusalTold (c .before .x9 .given .1)
 returns-14 : tie.Need-returns-14
 returns-14 c = reply-as refusalTold (c .before .x10 .given .1)
 
+returns-15 : tie.Need-returns-15
+returns-15 c = reply-as refusalTold (c .enum-told5 .given .1)
+
+returns-16 : tie.Need-returns-16
+returns-16 c = reply-as refusalTold (c .before .x11 .given .1)
+
 pub refusal-spec : {M : Type 1} → statement M
 refusal-spec =
     tie.close
@@ -107,10 +119,12 @@ refusal-spec =
     enum-told-4
     enum-known-x-6
     enum-known-x-7
-    cast-t14
+    cast-t15
     enum-known-x-8
     enum-known-x-9
     enum-known-x-10
+    enum-told-5
+    enum-known-x-11
     returns
     returns-2
     returns-3
@@ -124,4 +138,6 @@ refusal-spec =
     returns-11
     returns-12
     returns-13
-    returns-14)
+    returns-14
+    returns-15
+    returns-16)

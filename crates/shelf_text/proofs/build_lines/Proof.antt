@@ -27,13 +27,13 @@ inside : (c : tie.After-a) → bodyLength (c .a .given .0 .0 .nodes) ≤ longest
 inside c =
     let l = told c in
     let s = begun l .args in
-    done-fits (s .n) (s .t .now) longest (c .a .given .0 .0) (sym (built l .build .ensures .is) ∙ c .a .given .1)
+    done-fits (s .n) (s .set) (s .t .now) longest (c .a .given .0 .0) (sym (built l .build .ensures .is) ∙ c .a .given .1)
 
 abbrev done : tie.After-body-length → tie.After-a
 done b = b .before .before
 
 -- the room is as long as it was
-long : (b : tie.After-body-length) → b .body-length .result ≤ length (built (told (done b)) .build .last .1 .1 .0)
+long : (b : tie.After-body-length) → b .body-length .result ≤ length (built (told (done b)) .build .last .1 .1 .1 .0)
 long b = omega (arith, inside (done b), b .body-length .ensures, told (done b) .before .before .before .before .room2 .given)
 
 slice-aggregate-build : tie.Need-slice-aggregate-build
@@ -74,7 +74,7 @@ body-lines-requires c κs =
       p .next,
       line-few build-word (l .before .build-numbers .result),
       begun l .pre,
-      length-take-le (b .body-length .result) (built l .build .last .1 .1 .0) (long b),
+      length-take-le (b .body-length .result) (built l .build .last .1 .1 .1 .0) (long b),
       b .body-length .ensures,
       inside (done b),
     )
@@ -93,7 +93,7 @@ returns c =
     let l = told a in
     let x = built l .build .ensures in
     let s = begun l .args in
-    let e = done-told (s .n) (s .t .now) _ _ _ (l .before .build-numbers .ensures) (x .is) (x .holds) (a .a .given .0 .0) (b .body-length .result) (a .a .given .1) (b .body-length .ensures) in
+    let e = done-told (s .n) (s .set) (s .t .now) _ _ _ (l .before .build-numbers .ensures) (x .is) (x .holds) (a .a .given .0 .0) (b .body-length .result) (a .a .given .1) (b .body-length .ensures) in
     writes-as _ _ _ _ _ _ e (writes-both _ _ _ _ _ _ _ _ (l .put-line .ensures) (d .body-lines .ensures))
 
 same-length-2 : tie.Need-same-length-2
@@ -104,7 +104,7 @@ returns-2 c =
     let l = c .before .before .before .before in
     let x = built l .build .ensures in
     let s = begun l .args in
-    writes-as _ _ _ _ _ _ (refused-told (s .n) (s .t .now) _ _ _ (l .before .build-numbers .ensures) (x .is) (x .holds) (c .before .match .keys2)) (l .put-line .ensures)
+    writes-as _ _ _ _ _ _ (refused-told (s .n) (s .set) (s .t .now) _ _ _ (l .before .build-numbers .ensures) (x .is) (x .holds) (c .before .match .keys2)) (l .put-line .ensures)
 
 pub build-lines-spec : {M : Type 1} → statement M
 build-lines-spec =

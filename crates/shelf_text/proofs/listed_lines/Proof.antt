@@ -85,7 +85,7 @@ returns c =
     let l = d .before .before .before .before .before in
     let m = l .before .before in
     let e = take-at (l .list .last .1 .0) _ (m .table-length .result) (whole-length l) ∙ whole l in
-    writes-as _ _ _ _ _ _ (ap (tableText (begun m .args .n)) e) (d .build-lines .ensures)
+    writes-as _ _ _ _ _ _ (ap (tableText (begun m .args .n) (begun m .args .set)) e) (d .build-lines .ensures)
 
 pub listed-lines-spec : {M : Type 1} → statement M
 listed-lines-spec =

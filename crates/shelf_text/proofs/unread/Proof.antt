@@ -24,6 +24,9 @@ enum-known-s-3 c = search needs
 enum-known-s-4 : tie.Need-enum-known-s-4
 enum-known-s-4 c = search needs
 
+enum-known-s-5 : tie.Need-enum-known-s-5
+enum-known-s-5 c = search needs
+
 returns : tie.Need-returns
 returns c = ap (λ (s : Reply). unreadNumbers (replied s)) (sym (c .before .s .given .1))
 
@@ -39,6 +42,9 @@ returns-3 c = ap (λ (s : Reply). unreadNumbers (replied s)) (sym (c .before .s3
 returns-4 : tie.Need-returns-4
 returns-4 c = ap (λ (s : Reply). unreadNumbers (replied s)) (sym (c .before .s4 .given .1))
 
+returns-5 : tie.Need-returns-5
+returns-5 c = ap (λ (s : Reply). unreadNumbers (replied s)) (sym (c .before .s5 .given .1))
+
 pub unread-spec : {M : Type 1} → statement M
 unread-spec =
     tie.close
@@ -48,7 +54,9 @@ unread-spec =
     tree-requires
     enum-known-s-3
     enum-known-s-4
+    enum-known-s-5
     returns
     returns-2
     returns-3
-    returns-4)
+    returns-4
+    returns-5)

@@ -46,7 +46,7 @@ use denote.Triple.Walked.{says, Stays, stay-none, stay-none-slice, gave-slice, w
 use Rattle.triplets.specs.declared.Triplet.{Triplet}
 use Rattle.entering.specs.declared.Answer.{Answer}
 use Rattle.entering.specs.Enters.{Enters, firstBad, decided}
-use Rattle.entering.specs.Passes.{Ready, cleared, filled}
+use Rattle.entering.specs.Passes.{Ready, cleared, filled, gathered}
 use Rattle.triplets.specs.Spelled.{spelled}
 use Rattle.entering.proofs.Answers.{passes-ready, passes-say}
 use Rattle.triplets.proofs.Again.{LentAgain, lends-again, comes-back}
@@ -153,7 +153,7 @@ module _ {M : Type 1} (𝓤 : URA M) (H : Heap 𝓤) (A : Atoms 𝓤) (W : Given
   to-pour r w zs = (((κ, (κ′, tt)), (q, (q′, tt)), tt, (r, (records, (table γ′ zs, tt))), (w ∷ [], (rv ∷ [], (tv zs ∷ [], tt)))), tt)
 
   abbrev SaysPoured : Answer → List ℕ → Answer → List ℕ → Type 0
-  SaysPoured r zs p us = (p ≡ r) × (us ≡ filled r (map spelled rs) zs)
+  SaysPoured r zs p us = (p ≡ gathered r (map spelled rs)) × (us ≡ filled r (map spelled rs) zs)
 
   abbrev Poured : Answer → List ℕ → Val → Item 𝓤
   Poured r zs w = later (some (λ (p : Answer). (Tokens ⊛ ‵ (S.the-row .own p (w ∷ []))) ⊛ some (λ (ys : Unit {0} × (Unit {0} × (List ℕ × Unit {0}))).

@@ -54,7 +54,7 @@ use denote.Triple.Table.{entered, cited}
 use denote.Triple.Walked.{says, needs, Stays, stay-dropped, stay-none-slice, stay-slice, walkOf, goes-dropped, goes-none-slice, goes-slice, Walks, ends-at, walked, walk-meets}
 use Rattle.triplets.specs.declared.Triplet.{Triplet}
 use Rattle.entering.specs.declared.Answer.{Answer}
-use Rattle.entering.specs.Passes.{Ready, filled}
+use Rattle.entering.specs.Passes.{Ready, filled, gathered}
 use Rattle.triplets.specs.Spelled.{spelled}
 use Rattle.triplets.proofs.Spelling.{Half, half-first, half-last, half-next, half-ready}
 use Rattle.triplets.proofs.Again.{LentAgain, lends-again, comes-back}
@@ -88,7 +88,7 @@ One 𝓤 H A mem run = tripleOf 𝓤 H A step.signature (step.spec 𝓤 H A mem 
 
 -- what `put_triplet` says of the triplet e, the answer s and the table ts, at its result r and the last list zs
 abbrev Put : Triplet → Answer → List ℕ → Answer → List ℕ → Type 0
-Put e s ts r zs = (r ≡ s) × (zs ≡ filled s (spelled e ∷ []) ts)
+Put e s ts r zs = (r ≡ gathered s (spelled e ∷ [])) × (zs ≡ filled s (spelled e ∷ []) ts)
 
 -- a₀ and w₀ are the answer passed and its machine value, (b, o) and γ are where the records lie and their name, and (b′, o′) and γ′ the table's
 module _ {M : Type 1} (𝓤 : URA M) (H : Heap 𝓤) (A : Atoms 𝓤) (W : Given 𝓤 H A) (at-mem : Memory → SProp 𝓤) (run : Routine → Fun 𝓤) (κ κ′ : Lft) (bounds : AllOutlive 2 (self.signature .outlives) (κ, (κ′, tt))) (q q′ : Share)
@@ -100,7 +100,7 @@ module _ {M : Type 1} (𝓤 : URA M) (H : Heap 𝓤) (A : Atoms 𝓤) (W : Given
   all = filled a₀ (map spelled rs) ts₀
 
   abbrev Says : Answer → List ℕ → Type 0
-  Says s ts = (s ≡ a₀) × (ts ≡ all)
+  Says s ts = (s ≡ gathered a₀ (map spelled rs)) × (ts ≡ all)
 
   abbrev records : RefT (List Triplet)
   records = record { ptr = (b, o); name = γ; now = rs }
@@ -251,7 +251,7 @@ module _ {M : Type 1} (𝓤 : URA M) (H : Heap 𝓤) (A : Atoms 𝓤) (W : Given
         subst (λ (j : ℕ). ent 𝓤 (⋆ 𝓤 H A (At j (z .1 .0) (z .1 .1 .0) (z .1 .1 .1))) (Wp 𝓤 H C Λ En mir.turn-1 (afterTurn 𝓤 H (Below 𝓤 State Facts Has zero) Left))) (omega (arith, f .count))
         (ends (z .1 .0) (z .1 .1 .0) (z .1 .1 .1) (Below 𝓤 State Facts Has zero) (half-last f) (f .long))
     turn-at (suc t) z f =
-        more (z .0) (z .1 .0) (z .1 .1 .0) (z .1 .1 .1) (Below 𝓤 State Facts Has (suc t)) (omega (arith, f .count)) (subst (Room u8) (sym (f .long)) gt) (half-ready none ready f) (λ r u zs e l.
+        more (z .0) (z .1 .0) (z .1 .1 .0) (z .1 .1 .1) (Below 𝓤 State Facts Has (suc t)) (omega (arith, f .count)) (subst (Room u8) (sym (f .long)) gt) (half-ready none f) (λ r u zs e l.
         below 𝓤 State Facts Has (suc t) t (z .0 + 1, (r, (u, zs))) (lt-suc-self t) (half-next none f (e .0) (e .1) l))
 
     -- what the walk has where the body begins: as `At`, with room for _4 and _5
@@ -263,7 +263,7 @@ module _ {M : Type 1} (𝓤 : URA M) (H : Heap 𝓤) (A : Atoms 𝓤) (W : Given
     begins typed =
         qed W First ∵ exec ! C Λ En mir.t-1 (atRet En Post) $
         assigns ! (of-opd ! (load ! (from ! (stop !)) (look ! 28 refl))) (from ! (stop !)) (init ! 6 refl typed) $
-        assigns ! (of-opd ! (lit ! tt)) (from ! (stop !)) (init ! 7 refl (tt, record { fits = lit< tt })) $ by ! (loops 𝓤 State Facts Has H A W 𝓣 En mir.turn-1 Left turn-at n (0, (a₀, (w₀, ts₀))) (half-first rs a₀ ts₀))
+        assigns ! (of-opd ! (lit ! tt)) (from ! (stop !)) (init ! 7 refl (tt, record { fits = lit< tt })) $ by ! (loops 𝓤 State Facts Has H A W 𝓣 En mir.turn-1 Left turn-at n (0, (a₀, (w₀, ts₀))) (half-first rs a₀ ts₀ ready))
 
   walk : (𝓣 : Tables 𝓤 H) → Triple 𝓤 (𝓣 .C #triplets·put-triplet) (One 𝓤 H A at-mem run) → T (hasTy ans w₀) × WT w₀ → Room R n → Room u8 (length ts₀) → Ready a₀ (map spelled rs) ts₀
       → ent 𝓤 (onEntry 𝓤 H A self.signature (κ, (κ′, tt)) (q, (q′, tt)) x vals) (WpFn 𝓤 H (𝓣 .C) (𝓣 .Λ) code.function (w₀ ∷ rv ∷ tv ts₀ ∷ []) Post)

@@ -34,7 +34,7 @@ same-length c = search needs
 returns : tie.Need-returns
 returns c =
     let s = c .before .before .before .before .before .before .before .before in
-    line-same _ 114 (s .args .n) (s .args .first .now) (s .args .second .now) (c .before .before .before .before .match .keys1) (c .before .before .read-line .ensures)
+    line-same _ 114 (s .args .n) (s .args .m) (s .args .first .now) (s .args .second .now) (c .before .before .before .before .match .keys1) (c .before .before .read-line .ensures)
 
 same-length-2 : tie.Need-same-length-2
 same-length-2 c = search needs
@@ -45,7 +45,7 @@ same-length-3 c = search needs
 returns-2 : tie.Need-returns-2
 returns-2 c =
     let s = c .before .before .before .before .before .before .before .before .before .before .before in
-    line-same _ 108 (s .args .n) (s .args .first .now) (s .args .second .now) (c .before .before .before .before .before .before .before .match .keys2) (c .before .before .before .before .list-line .ensures .0)
+    line-same _ 108 (s .args .n) (s .args .m) (s .args .first .now) (s .args .second .now) (c .before .before .before .before .before .before .before .match .keys2) (c .before .before .before .before .list-line .ensures .0)
 
 same-length-4 : tie.Need-same-length-4
 same-length-4 c = search needs
@@ -59,7 +59,7 @@ same-length-6 c = search needs
 returns-3 : tie.Need-returns-3
 returns-3 c =
     let s = c .before .before .before .before .before .before .before .before .before .before .before .before .before in
-    line-same _ 101 (s .args .n) (s .args .first .now) (s .args .second .now) (c .before .before .before .before .before .before .before .before .before .match .keys3) (c .before .before .before .before .before .enter-line .ensures)
+    line-same _ 101 (s .args .n) (s .args .m) (s .args .first .now) (s .args .second .now) (c .before .before .before .before .before .before .before .before .before .match .keys3) (c .before .before .before .before .before .enter-line .ensures)
 
 same-length-7 : tie.Need-same-length-7
 same-length-7 c = search needs
@@ -70,7 +70,7 @@ same-length-8 c = search needs
 returns-4 : tie.Need-returns-4
 returns-4 c =
     let s = c .before .before .before .before .before .before .before .before .before .before .before in
-    line-same _ 111 (s .args .n) (s .args .first .now) (s .args .second .now) (c .before .before .before .before .before .before .before .match .keys4) (c .before .before .before .before .order-line .ensures .0)
+    line-same _ 111 (s .args .n) (s .args .m) (s .args .first .now) (s .args .second .now) (c .before .before .before .before .before .before .before .match .keys4) (c .before .before .before .before .order-line .ensures .0)
 
 same-length-9 : tie.Need-same-length-9
 same-length-9 c = search needs
@@ -81,7 +81,7 @@ same-length-10 c = search needs
 returns-5 : tie.Need-returns-5
 returns-5 c =
     let s = c .before .before .before .before .before .before .before .before .before .before .before in
-    line-same _ 98 (s .args .n) (s .args .first .now) (s .args .second .now) (c .before .before .before .before .before .before .before .match .keys5) (c .before .before .before .before .build-line .ensures .0)
+    line-same _ 98 (s .args .n) (s .args .m) (s .args .first .now) (s .args .second .now) (c .before .before .before .before .before .before .before .match .keys5) (c .before .before .before .before .build-line .ensures .0)
 
 same-length-11 : tie.Need-same-length-11
 same-length-11 c = search needs
@@ -92,7 +92,7 @@ same-length-12 c = search needs
 returns-6 : tie.Need-returns-6
 returns-6 c =
     let s = c .before .before .before .before .before .before .before .before .before .before .before in
-    line-same _ 110 (s .args .n) (s .args .first .now) (s .args .second .now) (c .before .before .before .before .before .before .before .match .keys6) (c .before .before .before .before .parse-line .ensures .0)
+    line-same _ 110 (s .args .n) (s .args .m) (s .args .first .now) (s .args .second .now) (c .before .before .before .before .before .before .before .match .keys6) (c .before .before .before .before .parse-line .ensures .0)
 
 same-length-13 : tie.Need-same-length-13
 same-length-13 c = search needs
@@ -103,7 +103,7 @@ same-length-14 c = search needs
 returns-7 : tie.Need-returns-7
 returns-7 c =
     let s = c .before .before .before .before .before .before .before .before .before .before .before in
-    line-same _ 119 (s .args .n) (s .args .first .now) (s .args .second .now) (c .before .before .before .before .before .before .before .match .keys7) (c .before .before .before .before .render-line .ensures .0)
+    line-same _ 119 (s .args .n) (s .args .m) (s .args .first .now) (s .args .second .now) (c .before .before .before .before .before .before .before .match .keys7) (c .before .before .before .before .render-line .ensures .0)
 
 same-length-15 : tie.Need-same-length-15
 same-length-15 c = search needs
@@ -115,7 +115,7 @@ returns-8 : tie.Need-returns-8
 returns-8 c =
     let s = c .before .before .before .before .before .before .before .before .before in
     let k = c .before .before .before .before .before .match .rest in
-    line-check (s .args .byte) (s .args .n) (s .args .first .now) (s .args .second .now) (k .0 .0 .0 .0 .0 .0 .1) (k .0 .0 .0 .0 .0 .1) (k .0 .0 .0 .0 .1) (k .0 .0 .0 .1) (k .0 .0 .1) (k .0 .1) (k .1) (c .before .before .check-line .ensures)
+    line-check (s .args .byte) (s .args .n) (s .args .m) (s .args .first .now) (s .args .second .now) (k .0 .0 .0 .0 .0 .0 .1) (k .0 .0 .0 .0 .0 .1) (k .0 .0 .0 .0 .1) (k .0 .0 .0 .1) (k .0 .0 .1) (k .0 .1) (k .1) (c .before .before .check-line .ensures)
 
 pub call-line-spec : {M : Type 1} → statement M
 call-line-spec =

@@ -10,9 +10,12 @@ use Rattle.trial.proofs.making.line.Tie as tie
 element-copy-out-n : tie.Need-element-copy-out-n
 element-copy-out-n c = search needs
 
+element-copy-out-m : tie.Need-element-copy-out-m
+element-copy-out-m c = search needs
+
 returns : tie.Need-returns
 returns c =
-    let s = c .before .before .before .before .before .before in
+    let s = c .before .before .before .before .before .before .before in
     writes-as _ _ _ _ _ _ (made-none (s .args .t1) (s .args .first .now) (s .args .second .now) (not-true _ (c .if1 .taken))) (writes-nothing _ _ (omega (arith, s .pre .0)))
 
 slice-aggregate-put-word : tie.Need-slice-aggregate-put-word
@@ -28,7 +31,7 @@ returns-2 : tie.Need-returns-2
 returns-2 c =
     let t = c .before .before .before .before .before in
     let e = t .before .before in
-    let s = e .before .before .before .before .before .before in
+    let s = e .before .before .before .before .before .before .before in
     writes-as _ _ _ _ _ _ (made-cut (s .args .t1) (s .args .first .now) (s .args .second .now) (not-false _ (e .if1 .left)) (not-true _ (t .if2 .taken))) (c .before .before .put-word .ensures)
 
 call-line-requires : tie.Need-call-line-requires
@@ -46,7 +49,7 @@ same-length-4 c = search needs
 returns-3 : tie.Need-returns-3
 returns-3 c =
     let d = c .before .before .before .before .before .before .before .before .before in
-    let s = d .before .before .before .before .before .before .before .before in
+    let s = d .before .before .before .before .before .before .before .before .before in
     writes-as _ _ _ _ _ _ (made-whole (s .args .t1) (s .args .first .now) (s .args .second .now) (not-false _ (d .before .before .if1 .left)) (not-false _ (d .if2 .left))) (c .before .before .before .before .before .call-line .ensures)
 
 pub line-spec : {M : Type 1} → statement M
@@ -54,6 +57,7 @@ line-spec =
     tie.close
     (tie.spec
     element-copy-out-n
+    element-copy-out-m
     returns
     slice-aggregate-put-word
     put-word-requires

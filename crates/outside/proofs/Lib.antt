@@ -1,0 +1,2 @@
+-- The laws of triples that reach outside a set.
+pub mod Reaching
