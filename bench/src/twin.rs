@@ -548,10 +548,10 @@ fn order_answer(n: usize, body: &[u8], out: &mut [u8]) -> Answer {
 
 // ---- splitting a set, and building
 
-fn link(on: bool, a: usize, b: usize, g: &mut [[bool; 64]; 64]) {
+// Puts b into the row of a where it is on.
+fn join(on: bool, a: usize, b: usize, g: &mut [u64; 64]) {
     if on {
-        g[a][b] = true;
-        g[b][a] = true;
+        g[a] |= 1 << b;
     }
 }
 
@@ -560,9 +560,23 @@ fn below(s: u64, k: usize) -> u64 {
     s & ((1 << k) - 1)
 }
 
-// The links on s: of all triples with their three species in s.
-fn links(t: &[u8], s: u64) -> [[bool; 64]; 64] {
-    let mut g = [[false; 64]; 64];
+// Gives every link of a species of s to a higher one to the other row as well.
+fn mirror(s: u64, g: &mut [u64; 64]) {
+    let mut left = s;
+    while left != 0 {
+        let a = lowest(left);
+        let mut row = g[a] & !((1 << a) - 1);
+        while row != 0 {
+            g[lowest(row)] |= 1 << a;
+            row = rest(row);
+        }
+        left = rest(left);
+    }
+}
+
+// The links on s, a row for each species: of all triples with their three species in s, and then the other direction of each link.
+fn links(t: &[u8], s: u64) -> [u64; 64] {
+    let mut g = [0; 64];
     let mut highest = s;
     while highest != 0 {
         let c = lowest(highest);
@@ -574,39 +588,31 @@ fn links(t: &[u8], s: u64) -> [[bool; 64]; 64] {
             while left != 0 {
                 let a = lowest(left);
                 let v = byte(t, a, b, c);
-                link(v & 1 != 0, a, b, &mut g);
-                link(v & 2 != 0, a, c, &mut g);
-                link(v & 4 != 0, b, c, &mut g);
+                if v & 7 != 0 {
+                    join(v & 1 != 0, a, b, &mut g);
+                    if v & 6 != 0 {
+                        join(v & 2 != 0, a, c, &mut g);
+                        join(v & 4 != 0, b, c, &mut g);
+                    }
+                }
                 left = rest(left);
             }
             middle = rest(middle);
         }
         highest = rest(highest);
     }
+    mirror(s, &mut g);
     g
 }
 
-// The species linked to i.
-fn near(g: &[[bool; 64]; 64], i: usize) -> u64 {
-    let mut x = 0;
-    let mut j = 0;
-    while j < 64 {
-        if g[i][j] {
-            x |= 1 << j;
-        }
-        j += 1;
-    }
-    x
-}
-
 // What is reached from a over the links.
-fn part(g: &[[bool; 64]; 64], a: usize) -> u64 {
+fn part(g: &[u64; 64], a: usize) -> u64 {
     let mut x = 1 << a;
     let mut done = 0;
     let mut todo = x;
     while todo != 0 {
         let i = lowest(todo);
-        x |= near(g, i);
+        x |= g[i];
         done |= 1 << i;
         todo = x & !done;
     }

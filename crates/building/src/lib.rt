@@ -3,6 +3,7 @@ ghost use mathlib.Core.Path.{_≡_};
 ghost use mathlib.Core.List.{[]};
 ghost use Prim.Native.Nat.{_+_, _*_, _<_, _≤_};
 ghost use lib.ListN.{length};
+ghost use lib.Seq.{paste};
 ghost use Rattle.sets.specs.Sets.{has, size};
 ghost use Rattle.trees.specs.Build.{build};
 ghost use Rattle.tables.specs.Bytes.{entered};
@@ -10,6 +11,7 @@ ghost use Rattle.bodies.specs.Nodes.{roomFor, mostNodes, longest};
 ghost use Rattle.answers.specs.Looks.{firstRefusal};
 ghost use Rattle.building.specs.Builds.{inputLooks, Raises, Builds};
 ghost use Rattle.building.specs.Grows.{Grows};
+ghost use Rattle.building.specs.Waiting.{SameFrom};
 ghost use Rattle.building.specs.GoodSet.{badSet};
 
 pub enum Answer {
@@ -23,9 +25,31 @@ enum Branch {
     Stopped(u64),
 }
 
-// Builds a set that is not empty under `parent`, as node `at`.
-fn grow(t: &[u8], s: u64, room: &mut [u8], at: usize, parent: u8) -> Branch
-    requires { ⌜ (0 < size s) × (at + 2 * size s ≤ mostNodes + 1) × (length (now room) ≡ longest) ⌝ }
+// Moves the first `count` sets up by `gap` places, the last one first.
+fn lift(waiting: &mut [u64; 64], count: usize, gap: usize)
+    requires { ⌜ (gap + count ≤ 64) × (length (now waiting) ≡ 64) ⌝ }
+    ensures { λ _. ⌜ now (waiting .exit) ≡ paste (now (waiting .entry)) gap (now (waiting .entry)) count ⌝ }
+{
+    let mut k = count;
+    while k > 0 {
+        k -= 1;
+        waiting[gap + k] = waiting[k];
+    }
+}
+
+// Builds a set that is not empty under `parent`, as node `at`. What waits to be built after it stands in `waiting` from place `free` on, and stays; before
+// that there is a place for each of its species, so that its parts have room.
+fn grow(
+    t: &[u8],
+    s: u64,
+    waiting: &mut [u64; 64],
+    free: usize,
+    room: &mut [u8],
+    at: usize,
+    parent: u8,
+) -> Branch
+    requires { ⌜ (0 < size s) × (size s ≤ free) × (free ≤ 64) × (length (now waiting) ≡ 64) × (at + 2 * size s ≤ mostNodes + 1) × (length (now room) ≡ longest) ⌝ }
+    ensures { λ _. ⌜ SameFrom free (now (waiting .entry)) (now (waiting .exit)) ⌝ }
     ensures { λ _. ⌜ length (now (room .exit)) ≡ longest ⌝ }
     ensures { λ r. ⌜ Grows (build (entered (now (t .entry))) 64 (has s)) (size s) parent at (now (room .entry)) (now (room .exit)) r ⌝ }
 {
@@ -33,16 +57,18 @@ fn grow(t: &[u8], s: u64, room: &mut [u8], at: usize, parent: u8) -> Branch
         bodies::put_node(room, at, parent, sets::lowest(s) as u8);
         return Branch::Next(at + 1);
     }
-    let mut parts = [0; 64];
-    let count = splitting::split(t, s, &mut parts);
+    let count = splitting::split(t, s, waiting);
     if count == 1 {
         return Branch::Stopped(s);
     }
     bodies::put_node(room, at, parent, bodies::NONE);
+    let gap = free - count;
+    lift(waiting, count, gap);
     let mut next = at + 1;
     let mut k = 0;
     while k < count {
-        let r = grow(t, parts[k], room, next, at as u8);
+        let p = waiting[gap + k];
+        let r = grow(t, p, waiting, gap + k + 1, room, next, at as u8);
         match r {
             Branch::Next(m) => {
                 next = m;
@@ -62,7 +88,8 @@ fn raise(t: &[u8], s: u64, room: &mut [u8]) -> Answer
     ensures { λ r. ⌜ Raises (build (entered (now (t .entry))) 64 (has s)) [] (now (room .entry)) r (now (room .exit)) ⌝ }
 {
     let mut draft = [0; bodies::LONGEST];
-    let r = grow(t, s, &mut draft, 0, bodies::NONE);
+    let mut waiting = [0; 64];
+    let r = grow(t, s, &mut waiting, 64, &mut draft, 0, bodies::NONE);
     match r {
         Branch::Next(m) => {
             bodies::copy(&draft, m, room);

@@ -1,6 +1,7 @@
--- The laws of splitting: rows of flags and stores into them, walks over the species of a set, the links that the triples give, what is reached
--- over the rows, and the parts that are still to come.
+-- The laws of splitting: rows of links and stores into them, walks over the species of a set, giving every link to the other row, the links that
+-- the triples give, and the parts that are still to come.
 pub mod Stores
 pub mod Walks
+pub mod Mirroring
 pub mod Linking
 pub mod Coming

@@ -1,18 +1,15 @@
--- A walk over the species of a set, from the lowest up: what rows grow by, and a row of flags as a number. Assumes nothing.
-use mathlib.Core.Bool.{So, false, false≢true}
-use mathlib.Core.Logic.{_↔_, _≢_, inl, inr, ⊎-elim}
+-- A walk over the species of a set, from the lowest up: what rows grow by. Assumes nothing.
+use mathlib.Core.Bool.{So}
+use mathlib.Core.Logic.{_≢_, inl, inr, ⊎-elim}
 use mathlib.Core.Path.{_∙_, _≡_, ap, subst, sym}
-use Prim.Native.Nat.{_+_, _<_, _^_, ℕ}
-use native.Mathlib.Omega.{arith}
-use borrow.Author.Tests.{eqb-true}
-use lib.Dec.{eqb}
-use Rattle.sets.proofs.Bools.{bool-ext, ne-e, not-e, test}
-use Rattle.sets.proofs.Facts.{empty-e, minus-e, minus-i, single-e, single-i, union-case, union-l, union-r}
-use Rattle.sets.proofs.Tests.{has-single, number-unique, true-has}
-use Rattle.sets.specs.Sets.{Lowest, Rest, has, minus, number, single, union}
-use Rattle.sets.specs.Species.{Species}
+use Prim.Native.Nat.{ℕ}
+use lib.ListN.{length}
+use Rattle.sets.proofs.Bools.{not-e, test}
+use Rattle.sets.proofs.Facts.{empty-e, minus-e, minus-i, single-e, single-i}
+use Rattle.sets.proofs.Tests.{true-has}
+use Rattle.sets.specs.Sets.{Lowest, Rest, has, minus, single}
 use Rattle.splitting.proofs.Stores.{grown-none}
-use Rattle.splitting.specs.Rows.{Flagged, Rows, Some, Square}
+use Rattle.splitting.specs.Rows.{Flagged, Rows, Some}
 
 -- g grew from g₀ by what Q tells of the species of s that are not left
 pub record Walked (s : ℕ) (Q : ℕ → ℕ → ℕ → Type 0) (g₀ g : Rows) (left : ℕ) : Type 0 where
@@ -20,7 +17,7 @@ pub record Walked (s : ℕ) (Q : ℕ → ℕ → ℕ → Type 0) (g₀ g : Rows)
   pub grown : Flagged (λ x y. (k : ℕ) × So (has s k) × (So (has left k) → ⊥) × Q k x y) g₀ g
 
 module _ {s : ℕ} {Q : ℕ → ℕ → ℕ → Type 0} where
-  pub walk-start : {g : Rows} → Square g → Walked s Q g g s
+  pub walk-start : {g : Rows} → length g ≡ 64 → Walked s Q g g s
   walk-start h = record { inside = λ k p. p; grown = grown-none h (λ x y p. p .2 (p .1)) }
 
   pub walk-in : {g₀ g : Rows} {left k : ℕ} → left ≢ 0 → Lowest left k → Walked s Q g₀ g left → So (has s k)
@@ -35,7 +32,7 @@ module _ {s : ℕ} {Q : ℕ → ℕ → ℕ → Type 0} where
       record {
         inside = λ j h. w .inside j (off j h .0);
         grown = record {
-          square = q .square;
+          size = q .size;
           flags = λ x y. (
             λ h. ⊎-elim
                 (λ p. ⊎-elim (λ o. inl o) (λ o. inr (o .0, o .1, λ l. o .2 (off (o .0) l .0), o .3)) (w .grown .flags x y .0 p))
@@ -55,41 +52,10 @@ module _ {s : ℕ} {Q : ℕ → ℕ → ℕ → Type 0} where
 
   pub walk-end : {g₀ g : Rows} {left : ℕ} → left ≡ 0 → Walked s Q g₀ g left → Flagged (Some s Q) g₀ g
   walk-end e w = record {
-    square = w .grown .square;
+    size = w .grown .size;
     flags = λ x y. (
       λ h. ⊎-elim (λ p. inl p) (λ p. inr (p .0, p .1, p .3)) (w .grown .flags x y .0 h),
       λ h. w .grown .flags x y .1
           (⊎-elim (λ p. inl p) (λ p. inr (p .0, p .1, λ l. empty-e (p .0) (subst (λ (z : ℕ). So (has z (p .0))) e l), p .2)) h),
     );
   }
-
--- ---- the species below j for which P is so, as a number
-
-abbrev pub Collected : Species → ℕ → ℕ → Type 0
-Collected P j r = (k : ℕ) → So (has r k) ↔ ((k < j) × So (P k))
-
-module _ (P : Species) where
-  pub collect-start : Collected P 0 0
-  collect-start k = (λ h. absurd (empty-e k h), λ p. absurd (omega (arith, p .0)))
-
-  module _ (j r : ℕ) (c : Collected P j r) where
-    pub collect-yes : So (P j) → (r′ : ℕ) → r′ ≡ union r (single j) → Collected P (j + 1) r′
-    collect-yes p r′ e k = (
-      λ h. union-case r′ r (single j) k e h
-          (λ q. let w = c k .0 q in (omega (arith, w .0), w .1))
-          (λ q. let z = single-e j k q in (omega (arith, z), subst (λ (i : ℕ). So (P i)) z p)),
-      λ h. test (eqb j k)
-          (λ q. union-r r′ r (single j) k e (has-single j k ∙ q))
-          (λ q. let n : j ≡ k → ⊥ = ne-e j k q in union-l r′ r (single j) k e (c k .1 (omega (arith, h .0), h .1))),
-    )
-
-    pub collect-no : P j ≡ false → Collected P (j + 1) r
-    collect-no p k = (
-      λ h. let w = c k .0 h in (omega (arith, w .0), w .1),
-      λ h. test (eqb k j)
-          (λ q. absurd (false≢true (sym p ∙ subst (λ (i : ℕ). So (P i)) (eqb-true k j q) (h .1))))
-          (λ q. let n : k ≡ j → ⊥ = ne-e k j q in c k .1 (omega (arith, h .0), h .1)),
-    )
-
-    pub collect-end : r < 2 ^ 64 → j ≡ 64 → r ≡ number 64 P
-    collect-end l e = number-unique 64 r P l (λ k m. bool-ext (has r k) (P k) (λ h. c k .0 h .1) (λ h. c k .1 (omega arith, h)))

@@ -3,38 +3,41 @@ ghost use mathlib.Core.Path.{_≡_};
 ghost use Prim.Native.Nat.{_<_};
 ghost use lib.ListN.{length};
 ghost use lib.Seq.{sets};
-ghost use Rattle.sets.specs.Sets.{has, number};
+ghost use Rattle.sets.specs.Sets.{has};
 ghost use Rattle.sets.specs.Floods.{Flooded};
 ghost use Rattle.sets.specs.Species.{Below};
 ghost use Rattle.tables.specs.Bytes.{entered};
-ghost use Rattle.splitting.specs.Rows.{flag, Square, RowsShow, Pair, Ties, InRow, InLevel, Flagged};
+ghost use Rattle.splitting.specs.Rows.{flag, RowsShow, Pair, Ties, InRow, InLevel, Laid, Mirrored, Flagged};
 ghost use Rattle.splitting.specs.Split.{partsOf};
 
-// Links a and b where it is on.
-fn join(on: bool, a: usize, b: usize, g: &mut [[bool; 64]; 64])
-    requires { ⌜ (a < 64) × (b < 64) × Square (now g) ⌝ }
+// Puts b into the row of a where it is on.
+fn join(on: bool, a: usize, b: usize, g: &mut [u64; 64])
+    requires { ⌜ (a < 64) × (b < 64) × (length (now g) ≡ 64) ⌝ }
     ensures { λ _. ⌜ Flagged (Pair on a b) (now (g .entry)) (now (g .exit)) ⌝ }
 {
     if on {
-        g[a][b] = true;
-        g[b][a] = true;
+        g[a] = sets::with(g[a], b);
     }
 }
 
-// Links what is entered of the triple a < b < c.
-fn note(t: &[u8], a: usize, b: usize, c: usize, g: &mut [[bool; 64]; 64])
-    requires { ⌜ (a < b) × (b < c) × (c < 64) × Square (now g) ⌝ }
+// What is entered of the triple a < b < c, into the row of the lower species of each two that it links. Mostly that is nothing, or one triplet.
+fn note(t: &[u8], a: usize, b: usize, c: usize, g: &mut [u64; 64])
+    requires { ⌜ (a < b) × (b < c) × (c < 64) × (length (now g) ≡ 64) ⌝ }
     ensures { λ _. ⌜ Flagged (Ties (entered (now (t .entry))) a b c) (now (g .entry)) (now (g .exit)) ⌝ }
 {
     let s = tables::bits_of(t, a, b, c);
-    join(s.ab, a, b, g);
-    join(s.ac, a, c, g);
-    join(s.bc, b, c, g);
+    if s.ab | s.ac | s.bc {
+        join(s.ab, a, b, g);
+        if s.ac | s.bc {
+            join(s.ac, a, c, g);
+            join(s.bc, b, c, g);
+        }
+    }
 }
 
 // The triples with b and c, and the lowest from `low`.
-fn row(t: &[u8], low: u64, b: usize, c: usize, g: &mut [[bool; 64]; 64])
-    requires { ⌜ Below b (has low) × (b < c) × (c < 64) × Square (now g) ⌝ }
+fn row(t: &[u8], low: u64, b: usize, c: usize, g: &mut [u64; 64])
+    requires { ⌜ Below b (has low) × (b < c) × (c < 64) × (length (now g) ≡ 64) ⌝ }
     ensures { λ _. ⌜ Flagged (InRow (entered (now (t .entry))) low b c) (now (g .entry)) (now (g .exit)) ⌝ }
 {
     let mut left = low;
@@ -45,8 +48,8 @@ fn row(t: &[u8], low: u64, b: usize, c: usize, g: &mut [[bool; 64]; 64])
 }
 
 // The triples whose highest species is c, and the two others from `low`.
-fn level(t: &[u8], low: u64, c: usize, g: &mut [[bool; 64]; 64])
-    requires { ⌜ Below c (has low) × (c < 64) × Square (now g) ⌝ }
+fn level(t: &[u8], low: u64, c: usize, g: &mut [u64; 64])
+    requires { ⌜ Below c (has low) × (c < 64) × (length (now g) ≡ 64) ⌝ }
     ensures { λ _. ⌜ Flagged (InLevel (entered (now (t .entry))) low c) (now (g .entry)) (now (g .exit)) ⌝ }
 {
     let mut left = low;
@@ -57,36 +60,51 @@ fn level(t: &[u8], low: u64, c: usize, g: &mut [[bool; 64]; 64])
     }
 }
 
-// The links on s: all triples with their three species in s.
-fn links(t: &[u8], s: u64) -> [[bool; 64]; 64]
+// Puts a into the rows of all species of `row`.
+fn give(row: u64, a: usize, g: &mut [u64; 64])
+    requires { ⌜ (a < 64) × (length (now g) ≡ 64) ⌝ }
+    ensures { λ _. ⌜ Flagged (Laid row a) (now (g .entry)) (now (g .exit)) ⌝ }
+{
+    let mut left = row;
+    while left != 0 {
+        let i = sets::lowest(left);
+        g[i] = sets::with(g[i], a);
+        left = sets::rest(left);
+    }
+}
+
+// Gives every link of a species of s to a higher one to the other row as well.
+fn mirror(s: u64, g: &mut [u64; 64])
+    requires { ⌜ length (now g) ≡ 64 ⌝ }
+    ensures { λ _. ⌜ Flagged (Mirrored (now (g .entry)) s) (now (g .entry)) (now (g .exit)) ⌝ }
+{
+    let mut left = s;
+    while left != 0 {
+        let a = sets::lowest(left);
+        let low = sets::all(a);
+        let row = sets::minus(g[a], low);
+        give(row, a, g);
+        left = sets::rest(left);
+    }
+}
+
+// The links on s: all triples with their three species in s, and then the other direction of each link.
+fn links(t: &[u8], s: u64) -> [u64; 64]
     ensures { λ r. ⌜ RowsShow r (entered (now (t .entry))) s ⌝ }
 {
-    let mut g = [[false; 64]; 64];
+    let mut g = [0; 64];
     let mut left = s;
     while left != 0 {
         let c = sets::lowest(left);
         level(t, sets::meet(s, sets::all(c)), c, &mut g);
         left = sets::rest(left);
     }
+    mirror(s, &mut g);
     g
 }
 
-// The species linked to i.
-fn near(g: &[[bool; 64]; 64], i: usize) -> u64
-    requires { ⌜ i < 64 ⌝ }
-    ensures { λ r. ⌜ r ≡ number 64 (flag (now (g .entry)) i) ⌝ }
-{
-    let mut r = 0;
-    for j in 0..64 {
-        if g[i][j] {
-            r = sets::with(r, j);
-        }
-    }
-    r
-}
-
 // What is reached from a over the links.
-fn part(g: &[[bool; 64]; 64], a: usize) -> u64
+fn part(g: &[u64; 64], a: usize) -> u64
     requires { ⌜ a < 64 ⌝ }
     ensures { λ r. ⌜ Flooded (flag (now (g .entry))) a r ⌝ }
 {
@@ -95,7 +113,7 @@ fn part(g: &[[bool; 64]; 64], a: usize) -> u64
     let mut todo = reached;
     while todo != 0 {
         let i = sets::lowest(todo);
-        reached = sets::union(reached, near(g, i));
+        reached = sets::union(reached, g[i]);
         done = sets::with(done, i);
         todo = sets::minus(reached, done);
     }

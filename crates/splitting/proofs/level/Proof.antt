@@ -42,7 +42,7 @@ row-requires c κs =
       under-below (s .args .low) (k .lowest .result) (m .meet .result) (under m),
       s .pre .0 (k .lowest .result) (walk-in (i .loop-test .taken) (k .lowest .ensures) (i .before .loop .inv)),
       s .pre .1,
-      i .before .loop .inv .grown .square,
+      i .before .loop .inv .grown .size,
     )
 
 rest-requires : tie.Need-rest-requires Inv-loop μ-loop

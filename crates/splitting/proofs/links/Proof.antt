@@ -1,12 +1,13 @@
 -- The loop's invariant: the rows have what the triples tell whose highest species is not left. Assumes nothing.
 use mathlib.Core.Path.{_∙_, _≡_, ap}
+use Prim.Native.Nat.{ℕ}
 use native.Mathlib.Omega.{arith}
 use borrow.Author.Needs.{needs}
+use lib.ListN.{length-replicate}
 use Rattle.sets.specs.Sets.{meet, size, upto}
 use Rattle.tables.proofs.Bytes.{entered-proper}
 use Rattle.tables.specs.Bytes.{entered}
 use Rattle.splitting.proofs.Linking.{grown-under, triples-show, under-below}
-use Rattle.splitting.proofs.Stores.{square-none}
 use Rattle.splitting.proofs.Walks.{Walked, walk-end, walk-next, walk-start}
 use Rattle.splitting.specs.Rows.{InLevel}
 use Rattle.splitting.proofs.links.Statement.{statement}
@@ -19,7 +20,7 @@ abbrev μ-loop : tie.MeasureT-loop
 μ-loop t s g₀ left₀ g left = size left
 
 loop-holds : tie.Need-loop-holds Inv-loop μ-loop
-loop-holds c = walk-start square-none
+loop-holds c = walk-start (length-replicate {A = ℕ} 64 0)
 
 lowest-requires : tie.Need-lowest-requires Inv-loop μ-loop
 lowest-requires c κs = search needs
@@ -43,7 +44,7 @@ level-requires c κs =
     let s = i .before .before .before in (
       under-below (s .args .s) (k .lowest .result) (m .meet .result) (under m),
       k .lowest .ensures .small (i .loop-test .taken),
-      i .before .loop .inv .grown .square,
+      i .before .loop .inv .grown .size,
     )
 
 rest-requires : tie.Need-rest-requires Inv-loop μ-loop
@@ -61,10 +62,15 @@ loop-again c =
     let r = grown-under (a .s) (k .lowest .result) (m .meet .result) (under m) (λ z. InLevel (entered (a .t .now)) z (k .lowest .result)) (c .before .level .ensures) in
     walk-next (i .loop-test .taken) (k .lowest .ensures) (c .rest .ensures) r (i .before .loop .inv)
 
+mirror-requires : tie.Need-mirror-requires Inv-loop μ-loop
+mirror-requires c κs = c .before .before .loop .inv .grown .size
+
 returns : tie.Need-returns Inv-loop μ-loop
 returns c =
-    let a = c .before .before .before .args in
-    triples-show (entered (a .t .now)) (entered-proper (a .t .now)) (a .s) (omega arith) (walk-end (c .loop-test .left) (c .before .loop .inv))
+    let i = c .before .before in
+    let l = i .before .loop in
+    let a = i .before .before .before .args in
+    triples-show (entered (a .t .now)) (entered-proper (a .t .now)) (a .s) (omega arith) (walk-end (i .loop-test .left) (l .inv)) (c .mirror .ensures)
 
 pub links-spec : {M : Type 1} → statement M
 links-spec =
@@ -80,4 +86,5 @@ links-spec =
     rest-requires
     loop-less
     loop-again
+    mirror-requires
     returns)

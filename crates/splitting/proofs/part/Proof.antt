@@ -3,9 +3,11 @@ use mathlib.Core.Path.{_∙_, _≡_, sym}
 use Prim.Native.Nat.{_-_}
 use native.Mathlib.Omega.{arith}
 use borrow.Author.Needs.{needs}
+use lib.ListN.{getD}
 use Rattle.sets.proofs.Facts.{minus-empty}
 use Rattle.sets.specs.Sets.{minus, size}
 use Rattle.sets.proofs.Floods.{Spread, spread-end, spread-next, spread-start, todo-in, todo-less}
+use Rattle.splitting.proofs.Stores.{row-number}
 use Rattle.splitting.specs.Rows.{flag}
 use Rattle.splitting.proofs.part.Statement.{statement}
 use Rattle.splitting.proofs.part.Tie as tie
@@ -27,8 +29,11 @@ loop-holds c =
 lowest-requires : tie.Need-lowest-requires Inv-loop μ-loop
 lowest-requires c κs = search needs
 
-near-requires : tie.Need-near-requires Inv-loop μ-loop
-near-requires c κs = c .lowest .ensures .small (c .before .loop-test .taken)
+mul-union : tie.Need-mul-union Inv-loop μ-loop
+mul-union c = omega (arith, c .lowest .ensures .small (c .before .loop-test .taken))
+
+element-copy-out-union : tie.Need-element-copy-out-union Inv-loop μ-loop
+element-copy-out-union c = c .lowest .ensures .small (c .before .loop-test .taken)
 
 union-requires : tie.Need-union-requires Inv-loop μ-loop
 union-requires c κs = search needs
@@ -52,14 +57,14 @@ loop-again : tie.Need-loop-again Inv-loop μ-loop
 loop-again c =
     let w = c .before in
     let u = w .before in
-    let n = u .before in
-    let k = n .before in
+    let k = u .before .before in
     let i = k .before in
     let l = i .before .loop in
-    let a = i .before .before .before .args in (
-      spread-next (flag (a .g .now)) (a .a) (l .reached) (l .done) (k .lowest .result) (n .near .result) (u .union .result) (w .with .result)
+    let a = i .before .before .before .args in
+    let n = getD (a .g .now) (k .lowest .result) 0 in (
+      spread-next (flag (a .g .now)) (a .a) (l .reached) (l .done) (k .lowest .result) n (u .union .result) (w .with .result)
           (todo-in (l .reached) (l .done) (l .todo) (k .lowest .result) (l .inv .1) (i .loop-test .taken) (k .lowest .ensures))
-          (n .near .ensures) (u .union .ensures) (w .with .ensures) (l .inv .0),
+          (row-number (l .reached) n (u .union .result) (u .union .ensures) (omega arith)) (u .union .ensures) (w .with .ensures) (l .inv .0),
       c .minus .ensures,
     )
 
@@ -78,7 +83,8 @@ part-spec =
     single-requires
     loop-holds
     lowest-requires
-    near-requires
+    mul-union
+    element-copy-out-union
     union-requires
     with-requires
     minus-requires

@@ -26,7 +26,7 @@ note-requires c κs =
     let i = k .before in
     let s = i .before .before .before in
     let w = i .before .loop .inv in
-    (s .pre .0 (k .lowest .result) (walk-in (i .loop-test .taken) (k .lowest .ensures) w), s .pre .1, s .pre .2, w .grown .square)
+    (s .pre .0 (k .lowest .result) (walk-in (i .loop-test .taken) (k .lowest .ensures) w), s .pre .1, s .pre .2, w .grown .size)
 
 rest-requires : tie.Need-rest-requires Inv-loop μ-loop
 rest-requires c κs = search needs
