@@ -18,7 +18,8 @@
  * body. Nothing follows. It has 4,099 bytes at most.
  *
  * A table has C(n,3) bytes, one for each triple a < b < c, at the place KOODHAXIL_INDEX(a, b, c). In it 1 stands for ab|c, 2 for ac|b and 4 for
- * bc|a, added together; 0 says nothing.
+ * bc|a, and 8 for a fan, added together; 0 says nothing. Listing sets 8 where some tree has all three species and leaves them as a fan; entering never
+ * does. Building and the check read 1, 2 and 4 alone.
  *
  * A set of species is a uint64_t: bit i stands for species i. A species occurs in a collection where some tree has it, in a triplet or not; in records
  * where some record has it.
@@ -82,7 +83,7 @@ enum koodhaxil_number {
     KOODHAXIL_BAD_LENGTH = 5,    /* a body's length is 0, odd or over 254              tree number */
     KOODHAXIL_BAD_TREE = 6,      /* a tree rule is broken                              tree number, node, fault, what the fault carries */
     KOODHAXIL_BAD_TABLE = 7,     /* the table's length is not C(n,3)                   nothing */
-    KOODHAXIL_BAD_BYTE = 8,      /* a byte of the table is over 7                      the first such place */
+    KOODHAXIL_BAD_BYTE = 8,      /* a byte of the table is over 15                     the first such place */
     KOODHAXIL_SHORT_ROOM = 9,    /* the room is too short                              nothing */
     KOODHAXIL_NO_TREE = 10,      /* no tree holds every entered triplet                the set that stops: bit i for species i */
     KOODHAXIL_CONTRADICTED = 11, /* an entered triplet contradicts the tree            triple index, table byte */

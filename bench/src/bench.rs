@@ -57,7 +57,7 @@ const TWIN: Side = Side {
     render: twin::render,
 };
 
-// A tree of 64 species, its text, the table of its triplets, these triplets as records, and the collections of the tree once and 16 times.
+// A tree of 64 species, its text, the table of its triplets and fans, these triplets as records, and the collections of the tree once and 16 times.
 struct Run {
     name: &'static str,
     tree: Vec<u8>,
@@ -113,8 +113,8 @@ fn told(lent: usize, call: impl FnOnce(&mut [u8], &mut [usize]) -> usize) -> Tol
     (call(&mut lent, &mut values), values, lent)
 }
 
-// What one side tells of a run. Every table that is filled has to be the run's own, every species occurs, and the tree built from the table is the
-// tree in house order; so is the body read from the text, once it is put in house order, and the body read from the text that is written.
+// What one side tells of a run. Every table that is filled has to be the run's own, without the fans where it is entered; every species occurs; and the
+// tree built from the table is the tree in house order; so is the body read from the text, once it is put in house order, and the body read from the text that is written.
 fn answers(side: &Side, run: &Run) -> Option<Vec<Told>> {
     let reads = [&run.one, &run.sixteen].map(|bytes| told(0, |_, values| (side.read)(bytes, values)));
     let lists = [&run.one, &run.sixteen].map(|bytes| told(TABLE, |table, values| (side.list)(bytes, table, values)));
@@ -127,7 +127,8 @@ fn answers(side: &Side, run: &Run) -> Option<Vec<Told>> {
     let rendered = told(TEXT, |room, values| (side.render)(N, &run.tree, room, values));
     let written = rendered.2.get(..rendered.1[0]).unwrap_or_default();
     let again = told(BODY, |room, values| (side.parse)(N, written, room, values));
-    let filled = lists.iter().chain([&entered]).all(|(_, _, table)| *table == run.table);
+    let triplets: Vec<u8> = run.table.iter().map(|byte| byte & 7).collect();
+    let filled = lists.iter().all(|(_, _, table)| *table == run.table) && entered.2 == triplets;
     let occur = reads.iter().chain(&lists).map(|(_, values, _)| values[2]).chain([entered.1[1]]).all(|set| set as u64 == ALL);
     let same = ordered == built && ordered == housed && ordered == again;
     let all: Vec<Told> = reads.into_iter().chain(lists).chain([entered, ordered, built, parsed, rendered]).collect();

@@ -390,7 +390,8 @@ fn good_ones(tally: &mut Tally) {
     tally.good("n 2", &one(2, &[255, 255, 0, 1, 0, 0]), [2, 1, 3], &[]);
     tally.good("the lone leaf 63 of 64", &one(64, &[255, 63]), [64, 1, 1 << 63], &[0; 41_664]);
     tally.good("16 lone leaves", &collection(4, &vec![vec![255, 3]; 16]), [4, 16, 8], &[0; 4]);
-    tally.good("a fan", &one(3, &[255, 255, 0, 0, 0, 1, 0, 2]), [3, 1, 7], &[0]);
+    tally.good("a fan", &one(3, &[255, 255, 0, 0, 0, 1, 0, 2]), [3, 1, 7], &[8]);
+    tally.good("two of the three", &one(3, &[255, 255, 0, 0, 0, 1]), [3, 1, 3], &[0]);
     tally.good("01|2", &one(3, &[255, 255, 0, 255, 1, 0, 1, 1, 0, 2]), [3, 1, 7], &[1]);
     tally.good("02|1", &one(3, &[255, 255, 0, 255, 1, 0, 0, 1, 1, 2]), [3, 1, 7], &[2]);
     tally.good("12|0", &one(3, &[255, 255, 0, 0, 0, 255, 2, 2, 2, 1]), [3, 1, 7], &[4]);
@@ -399,13 +400,17 @@ fn good_ones(tally: &mut Tally) {
     let close = vec![255, 255, 0, 255, 1, 0, 1, 1, 0, 2];
     let other = vec![255, 255, 0, 255, 1, 0, 1, 2, 0, 1];
     let fan = vec![255, 255, 0, 0, 0, 1, 0, 2];
-    tally.good("01|2, 02|1 and a fan", &collection(3, &[close.clone(), other, fan]), [3, 3, 7], &[3]);
+    tally.good("01|2 and a fan", &collection(3, &[fan.clone(), close.clone()]), [3, 2, 7], &[9]);
+    tally.good("01|2, 02|1 and a fan", &collection(3, &[close.clone(), other, fan]), [3, 3, 7], &[11]);
+    tally.good("((0,1),2,3)", &one(4, &[255, 255, 0, 255, 1, 0, 1, 1, 0, 2, 0, 3]), [4, 1, 15], &[1, 1, 8, 8]);
+    tally.good("((0,1,2),3)", &one(4, &[255, 255, 0, 255, 1, 0, 1, 1, 1, 2, 0, 3]), [4, 1, 15], &[8, 1, 1, 1]);
+    tally.good("a fan of 4", &one(4, &[255, 255, 0, 3, 0, 1, 0, 2, 0, 0]), [4, 1, 15], &[8; 4]);
     // Document 01's run with n = 6: ((0,1),2) and ((0,1),(3,(4,5))).
     let far = vec![255, 255, 0, 255, 1, 0, 1, 1, 0, 255, 4, 3, 4, 255, 6, 4, 6, 5];
     tally.good("the run with n = 6", &collection(6, &[close, far]), [6, 2, 63], &SIX_TABLE);
     // Species that occur nowhere: leaves, fans and trees beside each other.
     tally.good("the leaf 2 of 4", &one(4, &[255, 2]), [4, 1, 4], &[0; 4]);
-    tally.good("the fan of 1, 3 and 4 of 5", &one(5, &[255, 255, 0, 4, 0, 1, 0, 3]), [5, 1, 26], &[0; 10]);
+    tally.good("the fan of 1, 3 and 4 of 5", &one(5, &[255, 255, 0, 4, 0, 1, 0, 3]), [5, 1, 26], &[0, 0, 0, 0, 0, 0, 0, 0, 8, 0]);
     tally.good("the leaves 5 and 0 of 6", &collection(6, &[vec![255, 5], vec![255, 0]]), [6, 2, 33], &[0; 20]);
     tally.good("(0,2) and the leaf 3 of 4", &collection(4, &[vec![255, 255, 0, 2, 0, 0], vec![255, 3]]), [4, 2, 13], &[0; 4]);
     let apart = vec![255, 255, 0, 255, 1, 0, 1, 3, 0, 2];
@@ -612,17 +617,17 @@ fn bodies_ordered(tally: &mut Tally) {
     tally.end_part("bodies put in house order, written out");
 }
 
-// n, a table with bytes over 7, and the place of the first one.
+// n, a table with bytes over 15, and the place of the first one.
 const OVER: [(usize, &[u8], usize); 9] = [
-    (3, &[8], 0),
-    (3, &[9], 0),
+    (3, &[16], 0),
+    (3, &[17], 0),
     (3, &[128], 0),
     (3, &[255], 0),
-    (4, &[8, 0, 0, 0], 0),
-    (4, &[7, 9, 0, 255], 1),
-    (4, &[1, 0, 16, 1], 2),
-    (4, &[3, 0, 0, 8], 3),
-    (5, &[7, 7, 7, 7, 7, 7, 7, 7, 7, 15], 9),
+    (4, &[16, 0, 0, 0], 0),
+    (4, &[15, 17, 0, 255], 1),
+    (4, &[1, 0, 32, 1], 2),
+    (4, &[3, 8, 0, 16], 3),
+    (5, &[15, 15, 15, 15, 15, 15, 15, 15, 15, 31], 9),
 ];
 
 // n, and lengths that its table does not have.
@@ -652,10 +657,10 @@ fn tables_refused(tally: &mut Tally) {
         }
     }
     let mut last = vec![0; 41_664];
-    last[41_663] = 8;
+    last[41_663] = 16;
     for (n, table, first) in OVER.into_iter().chain([(64, &last[..], 41_663)]) {
         for (set, room) in [(0, 0), (all(n), 4 * n - 3), (all(n), 4 * n - 2), (1, 300), (u64::MAX, 300)] {
-            tally.calls("a byte over 7", Call::Build(n, set, table, room), 8, &[first], None);
+            tally.calls("a byte over 15", Call::Build(n, set, table, room), 8, &[first], None);
         }
     }
     // Room for the body alone is not enough, and a table that no tree holds is 9 all the same.
@@ -693,7 +698,7 @@ fn sets_refused(tally: &mut Tally) {
     ];
     for (n, sets) in sets {
         for &set in sets {
-            for byte in [0, 1, 7] {
+            for byte in [0, 1, 8, 15] {
                 for room in [0, 4 * n - 2, 300] {
                     tally.calls("no set of the species", Call::Build(n, set, &vec![byte; fitting(n)], room), 15, &[], None);
                 }
@@ -703,8 +708,12 @@ fn sets_refused(tally: &mut Tally) {
     // n, a set, a table, and the first triple with a byte and a species outside the set.
     let mut last = vec![0; 41_664];
     last[41_663] = 4;
-    let outside: [(usize, u64, &[u8], usize); 16] = [
+    let outside: [(usize, u64, &[u8], usize); 20] = [
         (3, 1, &[1], 0),
+        (3, 5, &[8], 0),
+        (4, 7, &[0, 8, 0, 0], 1),
+        (4, 7, &[9, 0, 8, 1], 2),
+        (4, 11, &[0, 9, 0, 8], 3),
         (3, 6, &[7], 0),
         (4, 7, &[0, 0, 0, 1], 3),
         (4, 7, &[1, 1, 0, 1], 1),
@@ -733,6 +742,7 @@ fn sets_refused(tally: &mut Tally) {
 fn tables_without_a_tree(tally: &mut Tally) {
     for byte in [3, 5, 6, 7] {
         tally.no_tree("two or three of a triple", 3, &[byte], 7);
+        tally.no_tree("two or three of a triple, and a fan", 3, &[byte + 8], 7);
     }
     tally.no_tree("01|2 and 02|1 of 4", 4, &[3, 0, 0, 0], 7);
     tally.no_tree("01|2, 03|1 and 12|3", 4, &[1, 2, 0, 1], 15);
@@ -757,6 +767,7 @@ fn tables_without_a_tree(tally: &mut Tally) {
     table[0] = 3;
     tally.no_tree("the first and the last triple of 64", 64, &table, 7);
     tally.no_tree("all of 64", 64, &[7; 41_664], usize::MAX);
+    tally.no_tree("all of 64, and fans", 64, &[15; 41_664], usize::MAX);
     // Over a part of the species: the set that stops is inside it.
     tally.no_tree_over("01|2 and 02|1, over the three", 4, 7, &[3, 0, 0, 0], 7);
     tally.no_tree_over("01|3 and 03|1, over the three", 4, 11, &[0, 3, 0, 0], 11);
@@ -780,6 +791,13 @@ fn tables_built(tally: &mut Tally) {
     tally.built("12|0", 3, &[4], &[255, 255, 0, 0, 0, 255, 2, 1, 2, 2]);
     tally.built("n 4, nothing entered", 4, &[0; 4], &[255, 255, 0, 0, 0, 1, 0, 2, 0, 3]);
     tally.built("01|2 and 12|3", 4, &[1, 0, 0, 1], &LADDER);
+    // A fan is not entered.
+    tally.built("a fan", 3, &[8], &[255, 255, 0, 0, 0, 1, 0, 2]);
+    tally.built("01|2, and a fan", 3, &[9], &[255, 255, 0, 255, 1, 0, 1, 1, 0, 2]);
+    tally.built("02|1, and a fan", 3, &[10], &[255, 255, 0, 255, 1, 0, 1, 2, 0, 1]);
+    tally.built("12|0, and a fan", 3, &[12], &[255, 255, 0, 0, 0, 255, 2, 1, 2, 2]);
+    tally.built("01|2 and 12|3, and fans", 4, &[1, 8, 8, 9], &LADDER);
+    tally.built_over("a fan of 4, over its three", 4, 11, &[0, 8, 0, 0], &[255, 255, 0, 0, 0, 1, 0, 3]);
     tally.built("all of (((0,1),2),3)", 4, &[1; 4], &LADDER);
     tally.built("01|2 of 4", 4, &[1, 0, 0, 0], &[255, 255, 0, 255, 1, 0, 1, 1, 0, 2, 0, 3]);
     tally.built("23|1 of 4", 4, &[0, 0, 0, 4], &[255, 255, 0, 0, 0, 1, 0, 255, 3, 2, 3, 3]);
@@ -791,6 +809,7 @@ fn tables_built(tally: &mut Tally) {
     let mut fan = vec![255, 255];
     fan.extend((0..64).flat_map(|s| [0, s]));
     tally.built("n 64, nothing entered", 64, &[0; 41_664], &fan);
+    tally.built("n 64, fans", 64, &[8; 41_664], &fan);
     tally.built("all of ((((0,1),2),3)..,63)", 64, &[1; 41_664], &nested_house());
     let mut table = vec![0; 41_664];
     table[41_663] = 1;
@@ -836,9 +855,9 @@ fn candidates_refused(tally: &mut Tally) {
             }
         }
         let mut last = vec![0; 41_664];
-        last[41_663] = 8;
+        last[41_663] = 16;
         for (n, table, first) in OVER.into_iter().chain([(64, &last[..], 41_663)]) {
-            tally.checked("a byte over 7", n, table, body, 8, &[first]);
+            tally.checked("a byte over 15", n, table, body, 8, &[first]);
         }
     }
     // Tables that say nothing, one triplet of each triple, and all three.
@@ -867,12 +886,12 @@ fn candidates_checked(tally: &mut Tally) {
     tally.checked("the fan, entered 01|2 and 02|1", 3, &[3], &FAN, 0, &[]);
     tally.checked("01|2 and 12|3, the tree built from them", 4, &[1, 0, 0, 1], &LADDER, 0, &[]);
     tally.checked("the run with n = 6", 6, &SIX_TABLE, &SIX, 12, &[9]);
-    // Each byte against each tree of three species.
-    for byte in 0..8 {
+    // Each byte against each tree of three species; 8 is no triplet.
+    for byte in 0..16 {
         for (body, own) in [(CLOSE, 1), (APART, 2), (HIGH, 4)] {
-            let (number, values): (usize, &[usize]) = match byte {
+            let (number, values): (usize, &[usize]) = match byte & 7 {
                 0 => (12, &[0]),
-                _ if byte == own => (0, &[]),
+                entered if entered == own => (0, &[]),
                 _ => (11, &[0, byte as usize]),
             };
             tally.checked("one triplet, one byte", 3, &[byte], &body, number, values);
@@ -956,7 +975,7 @@ fn candidates_of_64(tally: &mut Tally) {
     let mut star = vec![255, 255];
     star.extend((0..64).flat_map(|s| [0, s]));
     let nested = nested_house();
-    for byte in [0, 1, 7] {
+    for byte in [0, 1, 7, 8, 15] {
         tally.checked("the star of 64", 64, &[byte; 41_664], &star, 0, &[]);
         tally.checked("the lone leaf 63 of 64", 64, &[byte; 41_664], &[255, 63], 0, &[]);
     }
@@ -1185,14 +1204,19 @@ fn all_candidates(n: usize) -> Vec<Vec<u8>> {
     (1..1 << n).flat_map(|set| all_trees(&subset(set))).collect()
 }
 
+// Every table of n species with bytes up to 7, and each once more with fans added, the next ones from table to table.
+fn small_tables(n: usize) -> impl Iterator<Item = Vec<u8>> {
+    let table = move |code: usize, fans: usize| (0..fitting(n)).map(|i| (code >> (3 * i) & 7 | (fans >> i & 1) << 3) as u8).collect();
+    (0..1 << (3 * fitting(n))).flat_map(move |code| [table(code, 0), table(code, 1 + code % 15)])
+}
+
 // Every candidate of up to 4 species against every table.
 fn small_candidates(tally: &mut Tally) {
     let mut answers = Answers::default();
     for (n, count) in [(1, 1), (2, 3), (3, 10), (4, 52)] {
         let candidates = all_candidates(n);
         assert_eq!(candidates.len(), count, "the trees of some of {n} species");
-        for code in 0..1 << (3 * fitting(n)) {
-            let table: Vec<u8> = (0..fitting(n)).map(|i| (code >> (3 * i) & 7) as u8).collect();
+        for table in small_tables(n) {
             for body in &candidates {
                 let told = plain::check(n, &table, body);
                 answers.count(&told);
@@ -1209,8 +1233,7 @@ fn small_sets(tally: &mut Tally) {
     let mut answers = Answers::default();
     for n in 1..=4 {
         let beyond = [1 << n, all(n) + (1 << n), 1 << 63, (1 << 63) + 1, u64::MAX];
-        for code in 0..1 << (3 * fitting(n)) {
-            let table: Vec<u8> = (0..fitting(n)).map(|i| (code >> (3 * i) & 7) as u8).collect();
+        for table in small_tables(n) {
             for set in (0..=all(n)).chain(beyond) {
                 let least = (4 * set.count_ones() as usize).saturating_sub(2);
                 for room in [least.saturating_sub(1), least] {
@@ -1231,7 +1254,7 @@ fn parts_of_own_tables(tally: &mut Tally) {
     let candidates = all_trees(&[0, 1, 2, 3, 4]);
     assert_eq!(candidates.len(), 236, "the trees of 5 species");
     for body in candidates {
-        let own = table_of(5, &[body.clone()]);
+        let own = triplets_of(5, &body);
         for code in 0..1 << 10 {
             // The bit of a triple that the tree does not resolve would give no other table.
             if (0..10).any(|i| code >> i & 1 == 1 && own[i] == 0) {
@@ -1428,6 +1451,11 @@ fn table_of(n: usize, bodies: &[Vec<u8>]) -> Vec<u8> {
     plain::list(&collection(n as u8, bodies), fitting(n)).1.unwrap()
 }
 
+// The table of a tree's triplets.
+fn triplets_of(n: usize, body: &[u8]) -> Vec<u8> {
+    triples::without_fans(&table_of(n, &[body.to_vec()]))
+}
+
 // The table of some random trees.
 fn listed(n: usize, trees: usize, dice: &mut Dice) -> Vec<u8> {
     let bodies: Vec<Vec<u8>> = (0..trees).map(|_| random_body(n, false, dice)).collect();
@@ -1451,7 +1479,7 @@ fn quarrels(n: usize, dice: &mut Dice) -> Vec<u8> {
     table
 }
 
-// A table with bytes up to 7, and what it is.
+// A table with bytes up to 15, and what it is.
 fn random_table(n: usize, dice: &mut Dice) -> (Vec<u8>, &'static str) {
     let (mut table, kind, bits) = match dice.below(8) {
         0..=2 => (vec![0; fitting(n)], "a few bits", dice.below(n)),
@@ -1463,7 +1491,7 @@ fn random_table(n: usize, dice: &mut Dice) -> (Vec<u8>, &'static str) {
     if !table.is_empty() {
         for _ in 0..bits {
             let place = dice.below(table.len());
-            table[place] ^= 1 << dice.below(3);
+            table[place] ^= 1 << dice.below(4);
         }
     }
     (table, kind)
@@ -1477,14 +1505,14 @@ fn damage_table(n: &mut usize, table: &mut Vec<u8>, dice: &mut Dice) -> &'static
         }
         1 => {
             let length = if dice.below(2) == 0 { dice.below(table.len() + 1) } else { table.len() + dice.below(3) };
-            table.resize(length, dice.below(9) as u8);
+            table.resize(length, dice.below(17) as u8);
             "another length"
         }
         _ => {
             for _ in 0..1 + dice.below(3) {
                 let place = dice.below(table.len().max(1));
                 if let Some(byte) = table.get_mut(place) {
-                    *byte = if dice.below(2) == 0 { 8 } else { dice.below(256) as u8 };
+                    *byte = if dice.below(2) == 0 { 16 } else { dice.below(256) as u8 };
                 }
             }
             "bytes of any value"
@@ -1573,7 +1601,7 @@ fn texts_again(tally: &mut Tally) {
     tally.end_part(&format!("{TREES} random trees, seed {SEED}: written, read and written again"));
 }
 
-// A candidate and a table with bytes up to 7, and where the candidate comes from.
+// A candidate and a table with bytes up to 15, and where the candidate comes from.
 fn random_candidate(n: usize, dice: &mut Dice) -> (Vec<u8>, Vec<u8>, &'static str) {
     let bodies: Vec<Vec<u8>> = (0..1 + dice.below(3)).map(|_| random_body(n, dice.below(2) == 0, dice)).collect();
     let (mut table, of_trees) = match dice.below(8) {
@@ -1590,7 +1618,7 @@ fn random_candidate(n: usize, dice: &mut Dice) -> (Vec<u8>, Vec<u8>, &'static st
     }
     if dice.below(8) == 0 && !table.is_empty() {
         let place = dice.below(table.len());
-        table[place] ^= 1 << dice.below(3);
+        table[place] ^= 1 << dice.below(4);
     }
     match dice.below(8) {
         0 => (random_body(n, false, dice), table, "a random candidate"),
@@ -1609,7 +1637,7 @@ fn random_candidates(tally: &mut Tally) {
     for _ in 0..CANDIDATES {
         let mut n = if dice.below(16) == 0 { 1 + dice.below(2) } else { 3 + dice.below(8) };
         let (mut bytes, mut table, mut kind) = random_candidate(n, &mut dice);
-        let first = table_of(n, &[bytes.clone()]).iter().position(|&byte| byte != 0);
+        let first = triplets_of(n, &bytes).iter().position(|&byte| byte != 0);
         match dice.below(16) {
             0 => kind = damage_table(&mut n, &mut table, &mut dice),
             1 => kind = damage(&mut bytes, &mut dice),

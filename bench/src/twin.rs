@@ -281,11 +281,13 @@ fn pairs(body: &[u8], groups: &[u64; 127], out: &mut [u64; 4096]) {
     }
 }
 
+// A triplet, a fan, or that not all three are here.
 enum Says {
     AB,
     AC,
     BC,
-    Nothing,
+    Fan,
+    Absent,
 }
 
 fn closer(meets: &[u64; 4096], a: usize, b: usize, c: usize) -> bool {
@@ -294,7 +296,7 @@ fn closer(meets: &[u64; 4096], a: usize, b: usize, c: usize) -> bool {
 
 fn ask(whole: u64, meets: &[u64; 4096], a: usize, b: usize, c: usize) -> Says {
     if !(has(whole, a) && has(whole, b) && has(whole, c)) {
-        return Says::Nothing;
+        return Says::Absent;
     }
     if closer(meets, a, b, c) {
         return Says::AB;
@@ -305,7 +307,7 @@ fn ask(whole: u64, meets: &[u64; 4096], a: usize, b: usize, c: usize) -> Says {
     if closer(meets, b, c, a) {
         return Says::BC;
     }
-    Says::Nothing
+    Says::Fan
 }
 
 // ---- the table
@@ -332,11 +334,11 @@ fn byte(t: &[u8], a: usize, b: usize, c: usize) -> u8 {
     }
 }
 
-// The first place with a byte over 7; the length where there is none.
+// The first place with a byte over 15; the length where there is none.
 fn over(t: &[u8]) -> usize {
     let mut i = 0;
     while i < t.len() {
-        if t[i] > 7 {
+        if t[i] > 15 {
             return i;
         }
         i += 1;
@@ -373,7 +375,7 @@ fn clear(t: &mut [u8]) {
     }
 }
 
-// Adds a bit to the byte of the triple a < b < c: 1 for ab|c, 2 for ac|b, 4 for bc|a.
+// Adds a bit to the byte of the triple a < b < c: 1 for ab|c, 2 for ac|b, 4 for bc|a, 8 for a fan.
 fn add_bit(t: &mut [u8], a: usize, b: usize, c: usize, bit: u8) {
     t[index(a, b, c)] |= bit;
 }
@@ -392,7 +394,8 @@ fn enter_tree(n: usize, body: &[u8], groups: &mut [u64; 127], meets: &mut [u64; 
                     Says::AB => add_bit(t, a, b, c, 1),
                     Says::AC => add_bit(t, a, b, c, 2),
                     Says::BC => add_bit(t, a, b, c, 4),
-                    Says::Nothing => {}
+                    Says::Fan => add_bit(t, a, b, c, 8),
+                    Says::Absent => {}
                 }
                 a += 1;
             }
@@ -749,7 +752,7 @@ fn relate(t: &[u8], n: usize, whole: u64, meets: &[u64; 4096], masks: &mut [u64;
             let mut a = 0;
             while a < b {
                 match ask(whole, meets, a, b, c) {
-                    Says::Nothing => {}
+                    Says::Fan | Says::Absent => {}
                     _ => {
                         let v = byte(t, a, b, c);
                         mark(v & 1 != 0, a, b, c, masks);
@@ -807,7 +810,7 @@ fn against(says: Says, v: u8) -> bool {
         Says::AB => v & 2 != 0 || v & 4 != 0,
         Says::AC => v & 1 != 0 || v & 4 != 0,
         Says::BC => v & 1 != 0 || v & 2 != 0,
-        Says::Nothing => false,
+        Says::Fan | Says::Absent => false,
     }
 }
 
@@ -886,7 +889,7 @@ fn sure(whole: u64, meets: &[u64; 4096], masks: &[u64; 4096], cores: &mut [u64; 
         Says::AB => has(core_of(masks, meets, cores, a, c), b),
         Says::AC => has(core_of(masks, meets, cores, a, b), c),
         Says::BC => has(core_of(masks, meets, cores, a, b), c),
-        Says::Nothing => true,
+        Says::Fan | Says::Absent => true,
     }
 }
 

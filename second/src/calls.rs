@@ -21,11 +21,12 @@ pub enum Call {
     Render { n: u64, body: Vec<u8>, room: Vec<u8> },
 }
 
-/// The answer to a call: its number, the word of its fault where there is one, and its line
-/// without the byte 10 at the end.
+/// The answer to a call: its number, the word of its fault where there is one, what was lent as the call leaves it,
+/// and its line without the byte 10 at the end.
 pub struct Answer {
     pub number: u8,
     pub fault: Option<&'static str>,
+    pub lent: Option<Vec<u8>>,
     pub line: String,
 }
 
@@ -96,12 +97,12 @@ impl Call {
             Call::List { bytes, table } => {
                 let mut table = table.clone();
                 let given = list(bytes, &mut table).map(collection_values);
-                answer(given, Some(&table))
+                answer(given, Some(table))
             }
             Call::Enter { n, records, table } => {
                 let mut table = table.clone();
                 let given = enter(*n, records, &mut table).map(|(n, set)| vec![n as u64, set]);
-                answer(given, Some(&table))
+                answer(given, Some(table))
             }
             Call::Order { n, body, room } => in_room(room, |room| order(*n, body, room)),
             Call::Build { n, set, table, room } => in_room(room, |room| build(*n, *set, table, room)),
@@ -171,10 +172,10 @@ fn collection_values(collection: Collection) -> Vec<u64> {
 fn in_room(room: &[u8], operation: impl FnOnce(&mut [u8]) -> Result<usize, Refusal>) -> Answer {
     let mut room = room.to_vec();
     let given = operation(&mut room).map(|value| vec![value as u64]);
-    answer(given, Some(&room))
+    answer(given, Some(room))
 }
 
-fn answer(given: Result<Vec<u64>, Refusal>, lent: Option<&[u8]>) -> Answer {
+fn answer(given: Result<Vec<u64>, Refusal>, lent: Option<Vec<u8>>) -> Answer {
     let mut fault_word = None;
     let (number, values) = match given {
         Ok(values) => (0, values.iter().map(|v| v.to_string()).collect()),
@@ -211,13 +212,13 @@ fn answer(given: Result<Vec<u64>, Refusal>, lent: Option<&[u8]>) -> Answer {
         line.push(' ');
         line.push_str(&value);
     }
-    if let Some(lent) = lent {
+    if let Some(lent) = &lent {
         line.push_str(" |");
         for byte in lent {
             write!(line, " {byte}").expect("a string takes it");
         }
     }
-    Answer { number, fault: fault_word, line }
+    Answer { number, fault: fault_word, lent, line }
 }
 
 /// Everything that trial writes for an input.

@@ -6,7 +6,7 @@ use std::sync::atomic::{AtomicBool, Ordering};
 use std::sync::mpsc::{channel, sync_channel, SyncSender};
 use std::sync::Mutex;
 
-use crate::calls::{lines, Call};
+use crate::calls::{lines, Answer, Call};
 use crate::programs::{Feed, Program, Programs, Run, AT_A_TIME};
 
 /// A batch is one run of trial; it is closed when it passes one of these.
@@ -16,11 +16,37 @@ const BYTES_IN_A_BATCH: usize = 2_000_000;
 /// How many counterexamples are kept; after them a part stops.
 const KEPT: usize = 10;
 
-/// How often each number of each operation came, and each fault.
+/// How often each number of each operation came, each fault, and each byte in the tables that were listed.
 #[derive(Default)]
 pub struct Counts {
     pub numbers: BTreeMap<(char, u8), u64>,
     pub faults: BTreeMap<(char, &'static str), u64>,
+    pub listed: BTreeMap<u8, u64>,
+}
+
+impl Counts {
+    fn add(&mut self, call: &Call, answer: &Answer) {
+        *self.numbers.entry((call.letter(), answer.number)).or_default() += 1;
+        if let Some(word) = answer.fault {
+            *self.faults.entry((call.letter(), word)).or_default() += 1;
+        }
+        if let (Call::List { .. }, 0, Some(table)) = (call, answer.number, &answer.lent) {
+            for byte in table {
+                *self.listed.entry(*byte).or_default() += 1;
+            }
+        }
+    }
+
+    fn add_all(&mut self, more: Counts) {
+        fn add_each<K: Ord>(to: &mut BTreeMap<K, u64>, more: BTreeMap<K, u64>) {
+            for (key, count) in more {
+                *to.entry(key).or_default() += count;
+            }
+        }
+        add_each(&mut self.numbers, more.numbers);
+        add_each(&mut self.faults, more.faults);
+        add_each(&mut self.listed, more.listed);
+    }
 }
 
 pub struct Comparison {
@@ -47,10 +73,7 @@ impl Batch {
             println!("second: FAILED: the second program disagrees with itself on {call:?}");
             std::process::exit(1)
         });
-        *counts.numbers.entry((call.letter(), answer.number)).or_default() += 1;
-        if let Some(word) = answer.fault {
-            *counts.faults.entry((call.letter(), word)).or_default() += 1;
-        }
+        counts.add(call, &answer);
         call.put(&mut self.input);
         self.ends.push(self.input.len());
         self.says.extend(answer.line.bytes());
@@ -96,13 +119,7 @@ impl Comparison {
                 self.batch(&batch, &run);
                 enough.store(self.enough(), Ordering::Relaxed);
             }
-            let counts = maker.join().expect("this program answers every call");
-            for (key, count) in counts.numbers {
-                *self.counts.numbers.entry(key).or_default() += count;
-            }
-            for (key, count) in counts.faults {
-                *self.counts.faults.entry(key).or_default() += count;
-            }
+            self.counts.add_all(maker.join().expect("this program answers every call"));
         });
     }
 

@@ -92,8 +92,8 @@ impl Entered {
 }
 
 /// Whether some tree with exactly the species of the set as leaves holds every triplet of the table, which
-/// says nothing of others. Up to n = 5 all trees are looked at, and the build is held against them; above
-/// that it is the build.
+/// has no fans and says nothing of others. Up to n = 5 all trees are looked at, and the build is held against
+/// them; above that it is the build.
 pub fn some_tree_holds(n: usize, set: u64, table: &[u8]) -> bool {
     let built = Entered::from_table(n, table).build(set);
     if n > 5 {

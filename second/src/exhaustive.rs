@@ -1,21 +1,22 @@
-//! All tables, sets, candidates and short lists up to four species, all short texts, those at the limits, and all rooms for a text.
+//! All tables, sets, candidates and short lists up to four species, tables with fans, all short texts, those at the limits, and all
+//! rooms for a text.
 
 use crate::calls::Call;
 use crate::grammar::place;
 use crate::limits::{cases, ladder};
 use crate::newick;
 use crate::trees::{all_trees, subsets, Tree};
-use crate::triples::{all, choose, one};
+use crate::triples::{all, choose, one, FAN};
 use crate::writer;
 
-/// Every table of n species.
-fn tables(n: usize) -> Vec<Vec<u8>> {
+/// Every table of n species that has these bytes.
+fn tables(n: usize, bytes: impl Iterator<Item = u8> + Clone) -> Vec<Vec<u8>> {
     let mut tables = vec![Vec::new()];
     for _ in 0..choose(n, 3) {
         tables = tables
             .iter()
             .flat_map(|table: &Vec<u8>| {
-                (0..8).map(move |byte| {
+                bytes.clone().map(move |byte| {
                     let mut longer = table.clone();
                     longer.push(byte);
                     longer
@@ -26,10 +27,14 @@ fn tables(n: usize) -> Vec<Vec<u8>> {
     tables
 }
 
+/// Every set of the species but the empty one.
+fn some_species(n: usize) -> Vec<u64> {
+    subsets(all(n)).into_iter().filter(|&set| set != 0).collect()
+}
+
 /// Every tree on any of the species.
 pub fn trees(n: usize) -> Vec<Tree> {
-    let sets = subsets(all(n)).into_iter().filter(|&set| set != 0);
-    sets.flat_map(all_trees).collect()
+    some_species(n).into_iter().flat_map(all_trees).collect()
 }
 
 /// The bodies of a tree, in every order of its nodes that the rules allow.
@@ -115,13 +120,13 @@ fn rooms_about(set: u64) -> Vec<usize> {
 
 pub fn exhaustive(push: &mut dyn FnMut(Call) -> bool) {
     for n in 1..=4 {
-        let tables = tables(n);
+        let tables = tables(n, 0..8);
         let trees = trees(n);
         let wide = n as u64;
 
         // every table with every set into build: with exactly the room, one byte less, and more; sets that are
         // none, without room and with enough
-        let good = subsets(all(n)).into_iter().filter(|&set| set != 0).map(|set| (set, rooms_about(set)));
+        let good = some_species(n).into_iter().map(|set| (set, rooms_about(set)));
         let bad = no_sets(n).into_iter().map(|set| (set, vec![0, 4 * n - 2]));
         for (set, rooms) in good.chain(bad) {
             for table in &tables {
@@ -215,6 +220,27 @@ pub fn exhaustive(push: &mut dyn FnMut(Call) -> bool) {
     }
 }
 
+/// Of three species every byte that there is; of four some bytes that are too large, and every table once more with fans
+/// added, the next ones from table to table. Each with every set into build, and with every candidate into check.
+pub fn fans(push: &mut dyn FnMut(Call) -> bool) -> bool {
+    let with_fans = |(k, table): (usize, Vec<u8>)| {
+        let added = 1 + k % 15;
+        table.iter().enumerate().map(|(place, byte)| byte | if added >> place & 1 == 1 { FAN } else { 0 }).collect()
+    };
+    let three = tables(3, 0..=255);
+    let four = tables(4, [0, 8, 15, 16].into_iter());
+    let added: Vec<Vec<u8>> = tables(4, 0..8).into_iter().enumerate().map(with_fans).collect();
+    [(3, three), (4, four), (4, added)].into_iter().all(|(n, tables)| {
+        let wide = n as u64;
+        let candidates: Vec<Vec<u8>> = trees(n).iter().map(Tree::house_order).collect();
+        tables.iter().all(|table| {
+            let build = |set| Call::Build { n: wide, set, table: table.clone(), room: vec![9; 4 * n - 2] };
+            let check = |body: &Vec<u8>| Call::Check { n: wide, table: table.clone(), body: body.clone() };
+            some_species(n).into_iter().map(build).chain(candidates.iter().map(check)).all(&mut *push)
+        })
+    })
+}
+
 /// Tables with one byte, or two, and every set of up to six species: which triple is the first outside. Then
 /// large n, and what comes first where there is more than one refusal.
 pub fn sets(push: &mut dyn FnMut(Call) -> bool) -> bool {
@@ -228,8 +254,8 @@ pub fn sets(push: &mut dyn FnMut(Call) -> bool) -> bool {
             for first in 0..length {
                 for second in first..length {
                     let mut table = vec![0; length];
-                    table[second] = 1 << ((first + second) % 3);
-                    table[first] |= 1 << (first % 3);
+                    table[second] = 1 << ((first + second) % 4);
+                    table[first] |= 1 << (first % 4);
                     let room = if (first + second) % 4 == 0 { 0 } else { enough };
                     if !call(n as u64, set, &table, room) {
                         return false;
@@ -241,14 +267,13 @@ pub fn sets(push: &mut dyn FnMut(Call) -> bool) -> bool {
 
     // large n: each species left out, alone, and the only one that is left out of what the table has
     for n in [16, 33, 63, 64] {
-        let (zeros, full) = (vec![0; choose(n, 3)], vec![7; choose(n, 3)]);
-        let mut last = zeros.clone();
-        last[choose(n, 3) - 1] = 1;
+        let (zeros, full) = (vec![0; choose(n, 3)], vec![15; choose(n, 3)]);
+        let last = [1, FAN].map(|byte| [&zeros[1..], &[byte]].concat());
         for species in (0..n).filter(|species| n < 33 || species % 7 < 2 || species + 3 > n) {
             for set in [one(species), all(n) & !one(species)] {
                 let good = rooms_about(set).into_iter().all(|room| call(n as u64, set, &zeros, room))
                     && call(n as u64, set, &full, 254)
-                    && call(n as u64, set, &last, 254);
+                    && last.iter().all(|last| call(n as u64, set, last, 254));
                 if !good {
                     return false;
                 }
@@ -262,7 +287,7 @@ pub fn sets(push: &mut dyn FnMut(Call) -> bool) -> bool {
     // n comes first, then the table's length, its bytes, the set, what is outside it, the room, and the tree
     for n in SIZES.into_iter().filter(|&n| n < 63 || n > 64).chain([3, 4]) {
         for set in [0, 1, 2, 3, 7, 15, 8, 16, 1 << 63, u64::MAX] {
-            for table in [&[][..], &[0], &[8], &[3], &[0; 4], &[0, 0, 0, 1], &[7, 0, 0, 9], &[3, 0, 0, 0], &[0; 5]] {
+            for table in SMALL_TABLES {
                 for room in [0, 1, 2, 9, 10, 13, 14, 300] {
                     if !call(n, set, table, room) {
                         return false;
@@ -273,6 +298,10 @@ pub fn sets(push: &mut dyn FnMut(Call) -> bool) -> bool {
     }
     true
 }
+
+/// Tables of three and four species, and of none; some have a byte that is too large.
+const SMALL_TABLES: [&[u8]; 11] =
+    [&[], &[0], &[8], &[16], &[3], &[0; 4], &[0, 0, 0, 1], &[0, 8, 0, 0], &[15, 0, 0, 17], &[3, 0, 0, 0], &[0; 5]];
 
 /// One sign of each kind that a text tells apart, and some digits.
 const SIGNS: [u8; 12] = *b"(),;:.0129 x";

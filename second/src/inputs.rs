@@ -6,22 +6,26 @@ use crate::operations::contradiction;
 use crate::random::Random;
 use crate::texts;
 use crate::trees::Tree;
-use crate::triples::{all, choose, members, one, triples};
+use crate::triples::{all, choose, has_three, members, one, triples, without_fans, FAN};
 use crate::writer;
 
 /// A check of a candidate with more species than this, past PC, counts as slow: it takes this
 /// program some tenths of a second.
 const SLOW_ABOVE: u32 = 32;
 
+/// The most species with which a call is made once more.
+const AGAIN_UP_TO: u64 = 16;
+
 pub struct Inputs {
     random: Random,
     slow_checks: usize,
     large: usize,
+    again: Option<Call>,
 }
 
 impl Inputs {
     pub fn new(seed: u64) -> Inputs {
-        Inputs { random: Random::new(seed), slow_checks: 0, large: 0 }
+        Inputs { random: Random::new(seed), slow_checks: 0, large: 0, again: None }
     }
 
     /// How many slow checks were made, and how many calls with more than 48 species.
@@ -29,8 +33,39 @@ impl Inputs {
         (self.slow_checks, self.large)
     }
 
-    /// A random call. At most as many slow checks are made, over all calls, as are allowed by now.
+    /// A random call, or the last one with other fans in its table. At most as many slow checks are made, over all calls,
+    /// as are allowed by now.
     pub fn call(&mut self, slow_allowed: usize) -> Call {
+        if let Some(call) = self.again.take() {
+            return call;
+        }
+        let call = self.new_call(slow_allowed);
+        if self.random.chance(1, 4) {
+            self.again = self.with_other_fans(&call);
+        }
+        call
+    }
+
+    /// The call with other fans in its table, none of them outside its set.
+    fn with_other_fans(&mut self, call: &Call) -> Option<Call> {
+        let mut call = call.clone();
+        let (n, set, table) = match &mut call {
+            Call::Build { n, set, table, .. } => (*n, *set, table),
+            Call::Check { n, table, .. } => (*n, u64::MAX, table),
+            _ => return None,
+        };
+        if n > AGAIN_UP_TO {
+            return None;
+        }
+        for ((a, b, c), byte) in triples(n as usize).zip(table) {
+            if has_three(set, a, b, c) && self.random.chance(1, 3) {
+                *byte ^= FAN;
+            }
+        }
+        Some(call)
+    }
+
+    fn new_call(&mut self, slow_allowed: usize) -> Call {
         let n = self.species();
         if n > 48 {
             self.large += 1;
@@ -489,16 +524,28 @@ impl Inputs {
 
     // ---- tables
 
-    /// A table without a byte over 7, and the trees that it was listed from where there are any.
+    /// A table without a byte over 15, and the trees that it was listed from where there are any.
     fn table(&mut self, n: usize) -> (Vec<u8>, Vec<Tree>) {
+        let (mut table, papers) = self.table_of_any_kind(n);
+        // fans more, here and there, or none at all
+        let of = self.random.between(1, 12);
+        match self.random.below(6) {
+            0 => table.iter_mut().for_each(|byte| *byte |= if self.random.chance(1, of) { FAN } else { 0 }),
+            1 => table = without_fans(&table),
+            _ => {}
+        }
+        (table, papers)
+    }
+
+    fn table_of_any_kind(&mut self, n: usize) -> (Vec<u8>, Vec<Tree>) {
         let length = choose(n, 3);
         match self.random.below(10) {
             0 => (vec![0; length], Vec::new()),
-            1 => ((0..length).map(|_| self.random.below(8) as u8).collect(), Vec::new()),
+            1 => ((0..length).map(|_| self.random.below(16) as u8).collect(), Vec::new()),
             2 | 3 => {
                 let of = self.random.between(2, 12);
                 let one_bit = (0..length)
-                    .map(|_| if self.random.chance(1, of) { 1 << self.random.below(3) } else { 0 })
+                    .map(|_| if self.random.chance(1, of) { 1 << self.random.below(4) } else { 0 })
                     .collect();
                 (one_bit, Vec::new())
             }
@@ -514,7 +561,7 @@ impl Inputs {
                 if kind >= 8 && length > 0 {
                     for _ in 0..self.random.between(1, 3) {
                         let place = self.random.below(length);
-                        table[place] = self.random.below(8) as u8;
+                        table[place] = self.random.below(16) as u8;
                     }
                 }
                 if kind == 7 {
@@ -530,7 +577,7 @@ impl Inputs {
         }
     }
 
-    /// The table with a wrong length or with bytes over 7, now and then.
+    /// The table with a wrong length or with bytes over 15, now and then.
     fn table_handed(&mut self, mut table: Vec<u8>) -> Vec<u8> {
         match self.random.below(24) {
             0 => {
@@ -543,12 +590,12 @@ impl Inputs {
             2 | 3 if !table.is_empty() => {
                 for _ in 0..self.random.between(1, 3) {
                     let place = self.random.below(table.len());
-                    table[place] = self.random.pick(&[8, 9, 16, 128, 255, 15]);
+                    table[place] = self.random.pick(&[15, 16, 17, 24, 128, 255]);
                 }
             }
             4 if !table.is_empty() => {
                 let place = self.random.pick(&[0, table.len() - 1]);
-                table[place] = 8;
+                table[place] = 16;
             }
             _ => {}
         }
@@ -700,10 +747,10 @@ impl Inputs {
     fn check(&mut self, n: usize, slow_allowed: usize) -> Call {
         let (mut table, mut tree) = self.table_and_candidate(n);
         // a candidate that resolves no triple passes every table: fewer of these
-        if n > 2 && tree.table(n).iter().all(|&says| says == 0) && self.random.chance(3, 4) {
+        if n > 2 && tree.triplets(n).iter().all(|&says| says == 0) && self.random.chance(3, 4) {
             (table, tree) = self.table_and_candidate(n);
         }
-        let slow = tree.species().count_ones() > SLOW_ABOVE && contradiction(&tree.table(n), &table).is_none();
+        let slow = tree.species().count_ones() > SLOW_ABOVE && contradiction(&tree.triplets(n), &table).is_none();
         if slow && self.slow_checks >= slow_allowed {
             // too many of these: a candidate with fewer of its species
             let mut species: Vec<usize> = members(tree.species()).collect();

@@ -22,6 +22,7 @@ mod trees;
 mod triples;
 mod writer;
 
+use std::collections::BTreeMap;
 use std::io::{Read, Write};
 use std::path::PathBuf;
 use std::process::ExitCode;
@@ -166,6 +167,11 @@ fn compare_all(programs: Programs, calls: u64, seed: u64, texts: usize) -> ExitC
     part(&mut comparison, "all tables, sets and candidates up to n = 4", |c| {
         c.calls(exhaustive::exhaustive);
     });
+    part(&mut comparison, "tables with fans", |c| {
+        c.calls(|push| {
+            exhaustive::fans(push);
+        });
+    });
     part(&mut comparison, "sets to build over", |c| {
         c.calls(|push| {
             exhaustive::sets(push);
@@ -205,7 +211,7 @@ fn compare_all(programs: Programs, calls: u64, seed: u64, texts: usize) -> ExitC
     });
     println!("second: among the random calls {} with more than 48 species, {} slow checks", made.1, made.0);
 
-    println!("second: how often each number came, among the fixed calls and among the random ones:");
+    println!("second: how often each number came, and each byte in a table that was listed, among the fixed calls and among the random ones:");
     let never = tell_counts(&fixed, &comparison.counts);
     for what in &never {
         println!("second: never came among the random calls: {what}");
@@ -231,34 +237,39 @@ fn part(comparison: &mut Comparison, name: &str, run: impl FnOnce(&mut Compariso
     );
 }
 
-/// Prints how often each number came; returns those that never did among the random calls.
+/// Prints how often each number came, each fault and each byte that was listed; returns those that never did among the
+/// random calls.
 fn tell_counts(fixed: &Counts, random: &Counts) -> Vec<String> {
     let mut never = Vec::new();
     for (letter, name, numbers, faults) in NUMBERS {
-        let mut line = format!("second:   {name:<6}");
-        for number in numbers {
-            let key = (letter, *number);
-            let often = random.numbers.get(&key).copied().unwrap_or(0);
-            let before = fixed.numbers.get(&key).copied().unwrap_or(0);
-            line.push_str(&format!("  {number}: {before} + {often}"));
-            if often == 0 {
-                never.push(format!("{name} {number}"));
-            }
+        let keys = numbers.iter().map(|&number| (number.to_string(), (letter, number)));
+        never.extend(tell_line(&format!("{name:<6}"), keys, &fixed.numbers, &random.numbers));
+        if !faults.is_empty() {
+            let keys = faults.iter().map(|&fault| (fault.to_string(), (letter, fault)));
+            never.extend(tell_line(&format!("{name:<6}  of the 6:"), keys, &fixed.faults, &random.faults));
         }
-        println!("{line}");
-        if faults.is_empty() {
-            continue;
-        }
-        let mut line = format!("second:   {name:<6}  of the 6:");
-        for &fault in faults {
-            let often = random.faults.get(&(letter, fault)).copied().unwrap_or(0);
-            let before = fixed.faults.get(&(letter, fault)).copied().unwrap_or(0);
-            line.push_str(&format!("  {fault}: {before} + {often}"));
-            if often == 0 {
-                never.push(format!("{name} 6 {fault}"));
-            }
-        }
-        println!("{line}");
     }
+    let bytes = (0..16).map(|byte: u8| (byte.to_string(), byte));
+    never.extend(tell_line("bytes listed:", bytes, &fixed.listed, &random.listed));
+    never
+}
+
+/// One line of it: each word, with how often its key came.
+fn tell_line<K: Ord>(
+    head: &str,
+    keys: impl Iterator<Item = (String, K)>,
+    fixed: &BTreeMap<K, u64>,
+    random: &BTreeMap<K, u64>,
+) -> Vec<String> {
+    let mut never = Vec::new();
+    let mut line = format!("second:   {head}");
+    for (word, key) in keys {
+        let [before, often] = [fixed, random].map(|counts| counts.get(&key).copied().unwrap_or(0));
+        line.push_str(&format!("  {word}: {before} + {often}"));
+        if often == 0 {
+            never.push(format!("{head} {word}"));
+        }
+    }
+    println!("{line}");
     never
 }

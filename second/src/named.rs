@@ -1,5 +1,6 @@
 //! Runs by name, each with its outcome written out by hand: those of document 01, worked examples of
-//! its source papers, Newick texts, read and written (document 02, T-01 and T-02), and sets that occur (T-03).
+//! its source papers, Newick texts, read and written (document 02, T-01 and T-02), sets that occur (T-03), and fans in
+//! tables (T-05).
 
 use crate::calls::Call;
 use crate::compare::{shown, split, Comparison};
@@ -30,6 +31,14 @@ impl Runs {
         self.call(name, Call::Build { n: n as u64, set, table, room }, line);
     }
 
+    /// The same, named by what is handed in. Where nothing is written, the room is as it was.
+    fn built(&mut self, n: usize, set: u64, table: &[u8], room: usize, told: &str) {
+        let shown = if table.len() <= 10 { format!("{table:?}") } else { format!("of {} bytes", table.len()) };
+        let name = format!("n={n}, set {set}, table {shown}, room of {room} bytes");
+        let line = if told.contains('|') { told.to_string() } else { format!("{told} |{}", " 9".repeat(room)) };
+        self.build_over(&name, n, set, table, room, &line);
+    }
+
     fn check(&mut self, name: &str, n: usize, table: &[u8], body: &[u8], line: &str) {
         let (table, body) = (table.to_vec(), body.to_vec());
         self.call(name, Call::Check { n: n as u64, table, body }, line);
@@ -54,9 +63,9 @@ impl Runs {
     /// A body written in a room with as many bytes 9 behind the text as are given.
     fn render(&mut self, n: u64, body: &[u8], text: &str, behind: usize) {
         let call = Call::Render { n, body: body.to_vec(), room: vec![9; text.len() + behind] };
-        let bytes: String = text.bytes().map(|byte| format!(" {byte}")).collect();
         let name = format!("n={n}, written as {:?}", short(text));
-        self.call(&name, call, &format!("0 {} |{bytes}{}", text.len(), " 9".repeat(behind)));
+        let written = spaced(text.as_bytes());
+        self.call(&name, call, &format!("0 {} |{written}{}", text.len(), " 9".repeat(behind)));
     }
 
     /// A body that is not written, which leaves its room of so many bytes as it was.
@@ -74,6 +83,16 @@ impl Runs {
 /// The body of a tree such as ((0,1),2), in house order.
 fn body(tree: &str) -> Vec<u8> {
     newick::read(format!("{tree};").as_bytes()).expect("a tree").house_order()
+}
+
+/// Bytes in decimal, each after a space.
+fn spaced(bytes: &[u8]) -> String {
+    bytes.iter().map(|byte| format!(" {byte}")).collect()
+}
+
+fn star_of_64() -> String {
+    let species: Vec<String> = (0..64).map(|species| species.to_string()).collect();
+    format!("({})", species.join(","))
 }
 
 fn text_name(n: u64, text: &[u8]) -> String {
@@ -201,9 +220,8 @@ enum Built {
 /// One collection, with n and the set that occurs: listed, built over that set, its built tree checked, and all of it by shelf.
 fn row(runs: &mut Runs, name: &str, (n, set): (usize, u64), papers: &[&str], table: &[u8], built: Built) {
     let bytes = collection(n, papers);
-    let listed: String = table.iter().map(|byte| format!(" {byte}")).collect();
     let call = Call::List { bytes: bytes.clone(), table: vec![9; table.len()] };
-    runs.call(&format!("{name}: list"), call, &format!("0 {n} {} {set} |{listed}", papers.len()));
+    runs.call(&format!("{name}: list"), call, &format!("0 {n} {} {set} |{}", papers.len(), spaced(table)));
     let build = format!("{name}: build");
     let room = 4 * set.count_ones() as usize - 2;
     match built {
@@ -281,7 +299,7 @@ fn papers(runs: &mut Runs) {
     );
     runs.check("papers 5: check ((0,1),2)", 4, &table, &CHERRY, "0");
 
-    let table = [5, 1, 0, 0];
+    let table = [5, 1, 8, 8];
     row(runs, "papers 6, ((A,B),C,X) and ((B,C),A)", (4, 15), &["((0,1),2,3)", "((1,2),0)"], &table, Built::Stops(7));
     runs.check("papers 6: check ((0,1,2),3)", 4, &table, &body("((0,1,2),3)"), "12 2");
 
@@ -308,15 +326,12 @@ fn papers(runs: &mut Runs) {
 
 /// The set that occurs, as it is returned.
 fn sets_returned(runs: &mut Runs) {
-    let star: Vec<String> = (0..64).map(|species| species.to_string()).collect();
-    let star = format!("({})", star.join(","));
     let papers: [(usize, &[&str], u64); 9] = [
         (4, &[], 0),
         (1, &["0"], 1),
         (4, &["3"], 8),
         (64, &["63"], 1 << 63),
-        (64, &[&star], u64::MAX),
-        // a fan says nothing, and has its species all the same
+        (64, &[&star_of_64()], u64::MAX),
         (5, &["(1,3,4)"], 26),
         (5, &["((4,1),3)", "(3,1)", "4"], 26),
         (6, &["(0,2)", "5"], 37),
@@ -326,7 +341,8 @@ fn sets_returned(runs: &mut Runs) {
         let told = format!("0 {n} {} {set}", papers.len());
         let name = format!("n={n}, {}", short(&papers.join(" and ")));
         runs.read(&format!("{name}: read"), &collection(n, papers), &told);
-        if papers.iter().all(|paper| !paper.contains("((")) && n < 8 {
+        // no tree here has three species
+        if papers.iter().all(|paper| paper.len() < 6) && n < 8 {
             let table = vec![9; choose(n, 3)];
             let zeros = " 0".repeat(table.len());
             let call = Call::List { bytes: collection(n, papers), table };
@@ -342,13 +358,7 @@ fn sets_returned(runs: &mut Runs) {
 
 /// The build over a set, and its refusals in their order.
 fn sets_built(runs: &mut Runs) {
-    let mut build = |n: usize, set: u64, table: &[u8], room: usize, told: &str| {
-        let shown = if table.len() <= 10 { format!("{table:?}") } else { format!("of {} bytes", table.len()) };
-        let name = format!("n={n}, set {set}, table {shown}, room of {room} bytes");
-        // where nothing is written, the room is as it was
-        let line = if told.contains('|') { told.to_string() } else { format!("{told} |{}", " 9".repeat(room)) };
-        runs.build_over(&name, n, set, table, room, &line);
-    };
+    let mut build = |n, set, table: &[u8], room, told: &str| runs.built(n, set, table, room, told);
     build(4, 15, &[0, 0, 0, 0], 14, "0 5 | 255 255 0 0 0 1 0 2 0 3 9 9 9 9");
     build(4, 11, &[0, 0, 0, 0], 10, "0 4 | 255 255 0 0 0 1 0 3 9 9");
     build(4, 11, &[0, 1, 0, 0], 10, "0 5 | 255 255 0 255 1 0 1 1 0 3");
@@ -362,8 +372,8 @@ fn sets_built(runs: &mut Runs) {
     build(0, 1, &[], 2, "2");
     build(65, 1, &[0; 10], 2, "2");
     build(4, 0, &[0, 0, 0], 0, "7");
-    build(4, 0, &[0, 9, 0, 8], 0, "8 1");
-    build(4, 7, &[0, 0, 0, 8], 0, "8 3");
+    build(4, 0, &[0, 17, 0, 16], 0, "8 1");
+    build(4, 7, &[0, 0, 0, 16], 0, "8 3");
     // an empty set, or a bit at n or above
     for set in [0, 16, 31, 17, 1 << 63, (1 << 63) | 15, 1 << 32, u64::MAX] {
         build(4, set, &[0, 0, 0, 0], 300, "15");
@@ -434,6 +444,148 @@ fn sets_on_the_shelf(runs: &mut Runs) {
         &["((1,2),5)", "((3,4),5)"],
         &table,
         Built::Tree(8, "255 255 0 255 1 1 1 2 0 255 4 3 4 4 0 5", "12 3"),
+    );
+}
+
+/// Fans that are listed, and such that are none: three species that are not all in one tree.
+fn fans_listed(runs: &mut Runs) {
+    let mut list = |n: usize, papers: &[&str], set: u64, table: &[u8]| {
+        let call = Call::List { bytes: collection(n, papers), table: vec![255; choose(n, 3)] };
+        let line = format!("0 {n} {} {set} |{}", papers.len(), spaced(table));
+        runs.call(&format!("n={n}, {}: list", short(&papers.join(" and "))), call, &line);
+    };
+    list(3, &["(0,1,2)"], 7, &[8]);
+    list(3, &["(2,0,1)", "(0,1,2)"], 7, &[8]);
+    list(3, &["(0,1,2)", "((0,1),2)"], 7, &[9]);
+    list(3, &["((0,2),1)", "(0,1,2)"], 7, &[10]);
+    list(3, &["(0,1,2)", "(0,(1,2))"], 7, &[12]);
+    list(3, &["((0,1),2)", "((0,2),1)", "(0,1,2)"], 7, &[11]);
+    list(3, &["(0,1,2)", "((0,1),2)", "((0,2),1)", "(0,(1,2))"], 7, &[15]);
+    list(3, &["((0,1),2)", "((0,2),1)", "(0,(1,2))"], 7, &[7]);
+    list(3, &["(0,1)"], 3, &[0]);
+    list(3, &["(0,1)", "(1,2)", "(0,2)", "2"], 7, &[0]);
+    list(3, &["(0,1)", "((0,1),2)"], 7, &[1]);
+    list(4, &["(0,1,2,3)"], 15, &[8, 8, 8, 8]);
+    list(4, &["(0,1,3)"], 11, &[0, 8, 0, 0]);
+    list(4, &["((0,1),2,3)"], 15, &[1, 1, 8, 8]);
+    list(4, &["((0,1,2),3)"], 15, &[8, 1, 1, 1]);
+    list(4, &["(0,(1,2,3))"], 15, &[4, 4, 4, 8]);
+    list(4, &["((0,3),1,2)"], 15, &[8, 2, 2, 8]);
+    list(4, &["((0,1),(2,3))"], 15, &[1, 1, 4, 4]);
+    list(4, &["(0,1,2)", "(0,1,3)", "((1,2),3)"], 15, &[8, 8, 0, 1]);
+    list(5, &["(1,3,4)"], 26, &[0, 0, 0, 0, 0, 0, 0, 0, 8, 0]);
+    list(5, &["(0,1,2)", "(3,4)"], 31, &[8, 0, 0, 0, 0, 0, 0, 0, 0, 0]);
+    list(5, &["((0,4),(1,2,3))"], 31, &[4, 4, 4, 8, 2, 2, 1, 2, 1, 1]);
+    list(64, &[&star_of_64()], u64::MAX, &[8; 41_664]);
+
+    // entering never sets it, whatever the table held
+    let enter = |n: u64, records: &[[u8; 3]], table: &[u8]| {
+        let (records, table) = (records.to_vec(), table.to_vec());
+        Call::Enter { n, records, table }
+    };
+    runs.call("n=3, no record entered over a fan", enter(3, &[], &[8]), "0 3 0 | 0");
+    runs.call("n=3, 01|2 entered over a fan", enter(3, &[[0, 1, 2]], &[8]), "0 3 7 | 1");
+    runs.call("n=3, all three entered over 15", enter(3, &[[0, 1, 2], [2, 0, 1], [1, 2, 0]], &[15]), "0 3 7 | 7");
+    runs.call("n=4, 12|3 entered over fans", enter(4, &[[2, 1, 3]], &[8; 4]), "0 4 14 | 0 0 0 1");
+}
+
+/// Tables with fans, and bytes over 15, to build from and to check against; fans on the shelf.
+fn fans_used(runs: &mut Runs) {
+    let mut build = |n, set, table: &[u8], room, told: &str| runs.built(n, set, table, room, told);
+    build(3, 7, &[8], 10, "0 4 | 255 255 0 0 0 1 0 2 9 9");
+    build(3, 7, &[9], 10, "0 5 | 255 255 0 255 1 0 1 1 0 2");
+    build(3, 7, &[10], 10, "0 5 | 255 255 0 255 1 0 1 2 0 1");
+    build(3, 7, &[12], 10, "0 5 | 255 255 0 0 0 255 2 1 2 2");
+    for byte in [11, 13, 14, 15] {
+        build(3, 7, &[byte], 10, "10 7");
+        build(3, 7, &[byte], 9, "9");
+    }
+    for byte in [16, 17, 24, 31, 32, 64, 128, 255] {
+        build(3, 7, &[byte], 10, "8 0");
+        build(3, 0, &[byte], 0, "8 0");
+    }
+    build(4, 15, &[1, 8, 8, 1], 14, "0 7 | 255 255 0 255 1 255 2 0 2 1 1 2 0 3");
+    build(4, 15, &[8, 8, 8, 8], 14, "0 5 | 255 255 0 0 0 1 0 2 0 3 9 9 9 9");
+    build(4, 15, &[11, 8, 8, 8], 14, "10 7");
+    build(4, 15, &[9, 10, 8, 9], 14, "10 15");
+    build(4, 15, &[15, 15, 15, 16], 14, "8 3");
+    build(4, 7, &[8, 16, 0, 255], 10, "8 1");
+    // a fan that reaches outside the set, after 15 and before 9
+    build(4, 7, &[0, 8, 0, 0], 10, "16 1");
+    build(4, 7, &[0, 8, 0, 0], 0, "16 1");
+    build(4, 7, &[9, 8, 0, 0], 10, "16 1");
+    build(4, 7, &[8, 0, 0, 0], 10, "0 4 | 255 255 0 0 0 1 0 2 9 9");
+    build(4, 11, &[8, 0, 8, 0], 10, "16 0");
+    build(4, 11, &[0, 8, 8, 1], 10, "16 2");
+    build(4, 13, &[0, 0, 8, 8], 10, "16 3");
+    build(4, 11, &[0, 8, 0, 0], 10, "0 4 | 255 255 0 0 0 1 0 3 9 9");
+    build(4, 11, &[0, 10, 0, 0], 10, "0 5 | 255 255 0 255 1 0 1 3 0 1");
+    build(4, 0, &[8, 8, 8, 8], 14, "15");
+    build(4, 31, &[8, 8, 8, 8], 14, "15");
+
+    for (byte, line) in [
+        (8, "12 0"),
+        (9, "0"),
+        (10, "11 0 10"),
+        (11, "11 0 11"),
+        (12, "11 0 12"),
+        (13, "11 0 13"),
+        (14, "11 0 14"),
+        (15, "11 0 15"),
+        (16, "8 0"),
+        (255, "8 0"),
+    ] {
+        runs.check(&format!("n=3, ((0,1),2), table {byte}"), 3, &[byte], &CHERRY, line);
+        let line = if byte < 16 { "0" } else { line };
+        runs.check(&format!("n=3, the fan, table {byte}"), 3, &[byte], &FAN, line);
+        runs.check(&format!("n=3, (0,1), table {byte}"), 3, &[byte], &[255, 255, 0, 0, 0, 1], line);
+    }
+    let wide = body("((0,1,2),3)");
+    for (tree, body, table, line) in [
+        ("(((0,1),2),3)", &NESTED[..], [1, 8, 8, 1], "0"),
+        ("(((0,1),2),3)", &NESTED, [9, 9, 9, 9], "0"),
+        ("(((0,1),2),3)", &NESTED, [1, 8, 8, 8], "12 1"),
+        ("(((0,1),2),3)", &NESTED, [8, 8, 8, 10], "11 3 10"),
+        ("((0,1,2),3)", &wide, [8, 1, 1, 1], "0"),
+        ("((0,1,2),3)", &wide, [15, 9, 1, 9], "0"),
+        ("((0,1,2),3)", &wide, [8, 1, 8, 8], "12 2"),
+        ("((0,1),2)", &CHERRY, [8, 15, 15, 15], "12 0"),
+    ] {
+        runs.check(&format!("n=4, {tree}, table {table:?}"), 4, &table, body, line);
+    }
+
+    row(runs, "(0,1,2) of 3", (3, 7), &["(0,1,2)"], &[8], Built::Tree(4, "255 255 0 0 0 1 0 2", "0"));
+    row(
+        runs,
+        "(0,1,2) and ((0,1),2)",
+        (3, 7),
+        &["(0,1,2)", "((0,1),2)"],
+        &[9],
+        Built::Tree(5, "255 255 0 255 1 0 1 1 0 2", "0"),
+    );
+    row(
+        runs,
+        "((0,1),2,3) and (0,1,2)",
+        (4, 15),
+        &["((0,1),2,3)", "(0,1,2)"],
+        &[9, 1, 8, 8],
+        Built::Tree(6, "255 255 0 255 1 0 1 1 0 2 0 3", "0"),
+    );
+    row(
+        runs,
+        "(0,1,3) and (0,2) of 5",
+        (5, 15),
+        &["(0,1,3)", "(0,2)"],
+        &[0, 8, 0, 0, 0, 0, 0, 0, 0, 0],
+        Built::Tree(5, "255 255 0 0 0 1 0 2 0 3", "0"),
+    );
+    row(
+        runs,
+        "(0,1,2), ((0,1),2) and ((0,2),1)",
+        (4, 7),
+        &["(0,1,2)", "((0,1),2)", "((0,2),1)"],
+        &[11, 0, 0, 0],
+        Built::Stops(7),
     );
 }
 
@@ -624,6 +776,8 @@ fn all_runs() -> Runs {
     sets_returned(&mut runs);
     sets_built(&mut runs);
     sets_on_the_shelf(&mut runs);
+    fans_listed(&mut runs);
+    fans_used(&mut runs);
     texts_read(&mut runs);
     texts_refused(&mut runs);
     texts_written(&mut runs);

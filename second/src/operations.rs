@@ -1,10 +1,10 @@
-//! The eight operations (document 01, "Numbers handed back", and document 02, T-01 to T-03).
+//! The eight operations (document 01, "Numbers handed back", and document 02, T-01 to T-03 and T-05).
 
 use crate::entered::{build_numbered_anew, some_tree_holds, Entered};
 use crate::grammar::{self, LONGEST_SEARCHED};
 use crate::newick;
 use crate::trees::{broken_rule, Fault, Tree};
-use crate::triples::{all, choose, has, has_three, index, one, triples, triplets_on};
+use crate::triples::{all, choose, has, has_three, index, one, triples, triplets_on, without_fans, FAN};
 use crate::writer;
 
 #[derive(Clone, Debug, PartialEq, Eq)]
@@ -79,7 +79,7 @@ fn table_length(n: usize, table: &[u8]) -> Result<(), Refusal> {
 }
 
 fn table_bytes(table: &[u8]) -> Result<(), Refusal> {
-    match table.iter().position(|&byte| byte > 7) {
+    match table.iter().position(|&byte| byte > 15) {
         Some(place) => Err(Refusal::TableByte { place }),
         None => Ok(()),
     }
@@ -137,7 +137,7 @@ pub fn read(bytes: &[u8]) -> Result<Collection, Refusal> {
     Ok(Collection { n, trees })
 }
 
-/// Lists a collection's triplets into the lent table. Returns the collection.
+/// Lists a collection's triplets and fans into the lent table. Returns the collection.
 pub fn list(bytes: &[u8], table: &mut [u8]) -> Result<Collection, Refusal> {
     let collection = read(bytes)?;
     table_length(collection.n, table)?;
@@ -216,12 +216,14 @@ pub fn build(n: u64, set: u64, table: &[u8], room: &mut [u8]) -> Result<usize, R
     if room.len() < 4 * set.count_ones() as usize - 2 {
         return Err(Refusal::Room);
     }
+    let entered = without_fans(table);
     if n <= 5 {
-        some_tree_holds(n, set, table); // holds the build against all trees
+        some_tree_holds(n, set, &entered); // holds the build against all trees
     }
-    let built = Entered::from_table(n, table).build(set);
+    let built = Entered::from_table(n, &entered).build(set);
     if set != all(n) {
-        assert_eq!(built, build_numbered_anew(set, table), "the build, with the species as they are and numbered anew");
+        let anew = build_numbered_anew(set, &entered);
+        assert_eq!(built, anew, "the build, with the species as they are and numbered anew");
     }
     match built {
         Err(set) => Err(Refusal::NoTree { set }),
@@ -262,10 +264,10 @@ pub fn check(n: u64, table: &[u8], body: &[u8]) -> Result<(), Refusal> {
     table_bytes(table)?;
     body_length(0, body.len())?;
     let candidate = tree_of(0, n, body)?;
-    let own = candidate.table(n);
+    let own = candidate.triplets(n);
 
     // R: the entered triplets on triples that the candidate resolves
-    let mut r = table.to_vec();
+    let mut r = without_fans(table);
     for (byte, says) in r.iter_mut().zip(&own) {
         if *says == 0 {
             *byte = 0;
@@ -311,9 +313,9 @@ pub fn check(n: u64, table: &[u8], body: &[u8]) -> Result<(), Refusal> {
     Ok(())
 }
 
-/// The first triple of which the candidate says something and the table something else.
+/// The first triple of which the candidate holds a triplet and the table has another.
 pub fn contradiction(own: &[u8], table: &[u8]) -> Option<usize> {
-    (0..own.len()).find(|&i| own[i] != 0 && table[i] & !own[i] != 0)
+    (0..own.len()).find(|&i| own[i] != 0 && table[i] & !FAN & !own[i] != 0)
 }
 
 /// The largest group with x and without y.

@@ -1,7 +1,7 @@
 //! Trees, their groups and what they say; bodies and the tree rules
-//! (document 01, "A tree's body and the collection" and "Triplets, links, building").
+//! (document 01, "A tree's body and the collection" and "Triplets, links, building"; document 02, T-05).
 
-use crate::triples::{choose, has, has_three, index, one, triples, triplets_on};
+use crate::triples::{choose, has, has_three, index, one, triples, triplets_on, without_fans, FAN};
 
 #[derive(Clone, Debug, PartialEq, Eq)]
 pub enum Tree {
@@ -29,8 +29,9 @@ impl Tree {
         groups
     }
 
-    /// What the tree says of each triple of n species, as a triplet table. "Some group has a and
-    /// b but not c" is asked of the smallest group that has a and b: the others hold it.
+    /// What the tree says of each triple of n species, as it is listed: a triplet or a fan, and nothing of
+    /// three that are not all in the tree. "Some group has a and b but not c" is asked of the smallest group
+    /// that has a and b: the others hold it. The three meet at one node when each two of them do.
     pub fn table(&self, n: usize) -> Vec<u8> {
         let mut groups = self.groups();
         groups.sort_by_key(|g| g.count_ones());
@@ -51,13 +52,17 @@ impl Tree {
                         table[place] |= bit;
                     }
                 }
+                let meet = [(a, b), (a, c), (b, c)].map(|(x, y)| smallest[x * n + y]);
+                if meet[0] == meet[1] && meet[1] == meet[2] {
+                    table[place] |= FAN;
+                }
             }
         }
         table
     }
 
     /// The same, word by word: ab|c is held when some group has a and b but not c, and c is in
-    /// the tree too.
+    /// the tree too. Three species of the tree without such a group are a fan.
     pub fn table_by_definition(&self, n: usize) -> Vec<u8> {
         let groups = self.groups();
         let mut table = vec![0; choose(n, 3)];
@@ -68,8 +73,17 @@ impl Tree {
                     table[index(a, b, c)] |= bit;
                 }
             }
+            let two_of_them = |g: &u64| [a, b, c].iter().filter(|&&i| has(*g, i)).count() == 2;
+            if has_three(self.species(), a, b, c) && !groups.iter().any(two_of_them) {
+                table[index(a, b, c)] |= FAN;
+            }
         }
         table
+    }
+
+    /// The triplets that the tree holds, as a table.
+    pub fn triplets(&self, n: usize) -> Vec<u8> {
+        without_fans(&self.table(n))
     }
 
     /// The tree with other species at its leaves.

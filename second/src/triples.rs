@@ -53,6 +53,14 @@ pub fn members(mut set: u64) -> impl Iterator<Item = usize> {
     })
 }
 
+/// The bit of a table's byte that stands for a fan (document 02, T-05).
+pub const FAN: u8 = 8;
+
+/// A table's triplets, without its fans: "build and check use only the bits 1, 2 and 4".
+pub fn without_fans(table: &[u8]) -> Vec<u8> {
+    table.iter().map(|byte| byte & !FAN).collect()
+}
+
 /// The three bits of a table's byte for the triple a < b < c, each with its triplet:
 /// the close pair and the third.
 pub fn triplets_on(a: usize, b: usize, c: usize) -> [(u8, (usize, usize, usize)); 3] {

@@ -63,7 +63,7 @@ lookCount n = refuseIf (wrongCount n) BadCounts
 abbrev pub lookTable : ℕ → ℕ → Look
 lookTable n l = refuseIf (wrongLength n l) BadTable
 
--- 8: "a table byte is over 7", with "first place"
+-- 8: "a table byte is over" 15, with "first place"; request T-05: "Refusal 8 is now for a byte over 15"
 abbrev pub lookBytes : List ℕ → Look
 lookBytes t = refuseIf (wrongByte t) (BadByte (over t))
 

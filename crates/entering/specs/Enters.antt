@@ -8,7 +8,7 @@ use lib.ListN.{getD, length, replicate}
 use Rattle.sets.specs.Sets.{number}
 use Rattle.sets.specs.Species.{Species}
 use Rattle.tables.specs.Bytes.{enter}
-use Rattle.tables.specs.Filled.{tableFor}
+use Rattle.tables.specs.Filled.{plain, tableFor}
 use Rattle.tables.specs.Index.{C}
 use Rattle.trees.specs.Triplets.{Triplets, both, different, only}
 use Rattle.answers.specs.Answers.{Told, Value, occurring-set, species-count, told, value}
@@ -80,9 +80,9 @@ decided n m k l = answered Done Refused (firstRefusal (decidedLooks n m k l)) (e
 abbrev pub enterLooks : ℕ → List (List ℕ) → ℕ → List Look
 enterLooks n rs l = decidedLooks n (length rs) (firstBad n rs) l
 
--- the table of the records rs: "On 0, listing and entering fill the whole table"
+-- the table of the records rs: "On 0, listing and entering fill the whole table"; request T-05: "Entering never sets 8"
 abbrev pub enterOf : ℕ → List (List ℕ) → List ℕ
-enterOf n rs = tableFor n (inRecords rs)
+enterOf n rs = tableFor n (plain (inRecords rs))
 
 -- t is the table before, r the answer, t′ the table after
 abbrev pub Enters : ℕ → List (List ℕ) → List ℕ → Answer → List ℕ → Type 0

@@ -1,4 +1,5 @@
 -- The groups of the nodes as sets, the smallest common group of each two species, and what a tree says of three species.
+use mathlib.Core.Logic.{_↔_}
 use mathlib.Core.Path.{_≡_}
 use mathlib.Core.Bool.{Bool, So, cond, not, _&&_}
 use mathlib.Core.List.{List}
@@ -7,9 +8,9 @@ use lib.ListN.{length, getD}
 use Rattle.sets.specs.Species.{Species, Below}
 use Rattle.sets.specs.Sets.{number}
 use Rattle.trees.specs.Trees.{Tree, under, groups, wellFormed}
-use Rattle.trees.specs.Triplets.{cutBy, holds}
+use Rattle.trees.specs.Triplets.{cutBy, fan, holds}
 use Rattle.groups.specs.declared.Says.{Says}
-use Rattle.groups.specs.declared.Says.the-variants.{AB, AC, BC, Nothing}
+use Rattle.groups.specs.declared.Says.the-variants.{AB, AC, BC, Absent, Fan}
 use Rattle.bodies.specs.Nodes.{Nodes, mostNodes}
 use Rattle.bodies.specs.Draws.{subtree}
 
@@ -54,6 +55,14 @@ pub record Candidate (n : ℕ) (T : Tree) (whole : ℕ) (meets : List ℕ) : Typ
   pub drawn : Drawn T whole meets
   pub below : Below n (under T)
 
--- what t says of a, b and c
+-- what t says of a, b and c. Request T-05: "asking a tree about three species must now tell 'fan' from 'not all here'"
 abbrev pub says : Tree → ℕ → ℕ → ℕ → Says
-says t a b c = cond (holds t a b c) AB (cond (holds t a c b) AC (cond (holds t b c a) BC Nothing))
+says t a b c = cond (holds t a b c) AB (cond (holds t a c b) AC (cond (holds t b c a) BC (cond (fan t a b c) Fan Absent)))
+
+-- what each of the five answers about three different species means, for a good tree
+pub record SaysRight (t : Tree) (a b c : ℕ) (s : Says) : Type 0 where
+  pub ab : (s ≡ AB) ↔ So (holds t a b c)
+  pub ac : (s ≡ AC) ↔ So (holds t a c b)
+  pub bc : (s ≡ BC) ↔ So (holds t b c a)
+  pub fan : (s ≡ Fan) ↔ So (fan t a b c)
+  pub absent : (s ≡ Absent) ↔ (So (under t a) × So (under t b) × So (under t c) → ⊥)

@@ -11,12 +11,13 @@ ghost use Rattle.bodies.specs.Nodes.{nodes, mostNodes, Good};
 ghost use Rattle.bodies.specs.Draws.{treeOf};
 ghost use Rattle.groups.specs.Groups.{setOf, Groups, cells, cell, Stamped, Meets, says};
 
-// What a tree says of three species a, b and c: ab|c, ac|b, bc|a, or none of them.
+// What a tree says of three species a, b and c: ab|c, ac|b or bc|a; that they are a fan; or that not all of them are here.
 pub enum Says {
     AB,
     AC,
     BC,
-    Nothing,
+    Fan,
+    Absent,
 }
 
 // The smallest common group of each two species: rows of 64, one for each species.
@@ -129,7 +130,7 @@ pub fn ask(whole: u64, meets: &[u64; CELLS], a: usize, b: usize, c: usize) -> Sa
     ensures { λ r. ⌜ ((t : Tree) → Meets t (now (meets .entry)) → whole ≡ setOf t → r ≡ says t a b c) ⌝ }
 {
     if !all_in(whole, a, b, c) {
-        return Says::Nothing;
+        return Says::Absent;
     }
     if closer(meets, a, b, c) {
         return Says::AB;
@@ -140,5 +141,5 @@ pub fn ask(whole: u64, meets: &[u64; CELLS], a: usize, b: usize, c: usize) -> Sa
     if closer(meets, b, c, a) {
         return Says::BC;
     }
-    Says::Nothing
+    Says::Fan
 }

@@ -12,10 +12,9 @@ use Rattle.collections.specs.Collection.{Collection}
 use Rattle.collections.specs.Layout.{bodyAt, species, start, trees}
 use Rattle.tables.proofs.Adding.{adds-both, adds-nothing}
 use Rattle.tables.specs.Adds.{Adds}
-use Rattle.tables.specs.Filled.{byteFor, treeByte}
+use Rattle.tables.specs.Filled.{byteFor, saidBy, treeByte}
 use Rattle.tables.specs.Index.{C}
-use Rattle.trees.specs.Triplets.{holds}
-use Rattle.listing.specs.Lists.{heldUpTo}
+use Rattle.listing.specs.Lists.{saidUpTo}
 
 module _ (b : List ℕ) (r : Collection b) where
   module _ (k : ℕ) (h : k < trees b) where
@@ -34,12 +33,12 @@ module _ (b : List ℕ) (r : Collection b) where
     part-good n u e q = rw (e, q) (r .most, body-good, body-long)
 
     -- the table after it
-    pub held-next : (n : ℕ) (u t₀ t t′ : List ℕ) → u ≡ bodyAt b k → Adds (byteFor (heldUpTo b k)) 0 (C n 3) t₀ t → Adds (treeByte (treeOf u)) 0 (C n 3) t t′
-        → Adds (byteFor (heldUpTo b (suc k))) 0 (C n 3) t₀ t′
-    unfolding heldUpTo
-    held-next n u t₀ t t′ q f a = adds-both (heldUpTo b k) (holds (treeOf (bodyAt b k))) 0 (C n 3) t₀ t t′ f (rw (← q) a)
+    pub said-next : (n : ℕ) (u t₀ t t′ : List ℕ) → u ≡ bodyAt b k → Adds (byteFor (saidUpTo b k)) 0 (C n 3) t₀ t → Adds (treeByte (treeOf u)) 0 (C n 3) t t′
+        → Adds (byteFor (saidUpTo b (suc k))) 0 (C n 3) t₀ t′
+    unfolding saidUpTo
+    said-next n u t₀ t t′ q f a = adds-both (saidUpTo b k) (saidBy (treeOf (bodyAt b k))) 0 (C n 3) t₀ t t′ f (rw (← q) a)
 
 -- no tree was listed
-pub held-none : (b t : List ℕ) (l : ℕ) → Adds (byteFor (heldUpTo b 0)) 0 l t t
-unfolding heldUpTo
-held-none b t l = adds-nothing 0 l t
+pub said-none : (b t : List ℕ) (l : ℕ) → Adds (byteFor (saidUpTo b 0)) 0 l t t
+unfolding saidUpTo
+said-none b t l = adds-nothing 0 l t

@@ -1,10 +1,10 @@
--- Listing a collection into a table. Document 01: "Listing a collection sets exactly the bits that at least one of its trees holds, over all trees".
+-- Listing a collection into a table. Document 01: "Listing a collection sets exactly the bits that at least one of its trees holds, over all trees";
+-- request T-05: "Listing adds 8 to a table byte where some tree holds all three as a fan."
 use mathlib.Core.Bool.{false}
 use mathlib.Core.List.{List, [], _∷_, _++_}
 use Prim.Native.Nat.{ℕ, zero, suc}
 use lib.ListN.{length}
-use Rattle.trees.specs.Triplets.{Triplets, both, holds}
-use Rattle.tables.specs.Filled.{tableFor}
+use Rattle.tables.specs.Filled.{Said, bothSaid, plain, saidBy, tableFor}
 use Rattle.bodies.specs.Draws.{treeOf}
 use Rattle.answers.specs.Looks.{Settled, after, answered, firstRefusal, lookTable}
 use Rattle.answers.specs.declared.Look.{Look}
@@ -14,13 +14,13 @@ use Rattle.collections.specs.declared.Answer.{Answer}
 use Rattle.collections.specs.declared.Answer.the-variants.{Done, Refused}
 
 -- what the first m trees of a collection say
-unfoldable pub heldUpTo : List ℕ → ℕ → Triplets
-heldUpTo b zero x y z = false
-heldUpTo b (suc m) x y z = both (heldUpTo b m) (holds (treeOf (bodyAt b m))) x y z
+unfoldable pub saidUpTo : List ℕ → ℕ → Said
+saidUpTo b zero = plain (λ x y z. false)
+saidUpTo b (suc m) = bothSaid (saidUpTo b m) (saidBy (treeOf (bodyAt b m)))
 
 -- the table of a collection
 abbrev pub listOf : List ℕ → List ℕ
-listOf b = tableFor (species b) (heldUpTo b (trees b))
+listOf b = tableFor (species b) (saidUpTo b (trees b))
 
 -- "Listing: the collection's refusals, then 7", for a table of l bytes
 abbrev pub listLooks : List ℕ → ℕ → List Look

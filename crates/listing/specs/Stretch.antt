@@ -5,11 +5,11 @@ use Prim.Native.Nat.{ℕ}
 use lib.ListN.{length}
 use Rattle.trees.specs.Trees.{Tree}
 use Rattle.tables.specs.Adds.{Adds}
-use Rattle.tables.specs.Bytes.{signAB, signAC, signBC}
+use Rattle.tables.specs.Bytes.{signAB, signAC, signBC, signFan}
 use Rattle.tables.specs.Filled.{treeByte}
 use Rattle.groups.specs.Groups.{Drawn}
 use Rattle.groups.specs.declared.Says.{Says}
-use Rattle.groups.specs.declared.Says.the-variants.{AB, AC, BC, Nothing}
+use Rattle.groups.specs.declared.Says.the-variants.{AB, AC, BC, Absent, Fan}
 
 -- from t to t′ every tree that is drawn so has said what it says of the triples from place lo on and before hi
 pub record Stretch (whole : ℕ) (meets : List ℕ) (lo hi : ℕ) (t t′ : List ℕ) : Type 0 where
@@ -21,4 +21,5 @@ abbrev pub saysByte : Says → ℕ
 saysByte AB = signAB
 saysByte AC = signAC
 saysByte BC = signBC
-saysByte Nothing = 0
+saysByte Fan = signFan
+saysByte Absent = 0

@@ -22,7 +22,8 @@ fn bits(s: groups::Says) -> u8
         groups::Says::AB => tables::AB,
         groups::Says::AC => tables::AC,
         groups::Says::BC => tables::BC,
-        groups::Says::Nothing => 0,
+        groups::Says::Fan => tables::FAN,
+        groups::Says::Absent => 0,
     }
 }
 

@@ -18,11 +18,11 @@ use Rattle.trees.proofs.Triples.{nowhere-e}
 use Rattle.trees.proofs.Triplets.{on-swap, on-turn, only-e, only-i, only-l}
 use Rattle.trees.specs.Check.{R}
 use Rattle.trees.specs.Trees.{Tree}
-use Rattle.trees.specs.Triplets.{Proper, Triplets, holds, only, resolves}
+use Rattle.trees.specs.Triplets.{Proper, Triplets, fan, holds, only, resolves}
 use Rattle.tables.proofs.Bytes.{entered-proper}
 use Rattle.tables.specs.Bytes.{entered}
 use Rattle.groups.specs.Groups.{Candidate, cell, cells, says}
-use Rattle.groups.specs.declared.Says.the-variants.{AB, AC, BC, Nothing}
+use Rattle.groups.specs.declared.Says.the-variants.{AB, AC, BC, Absent, Fan}
 use Rattle.masks.proofs.Growth.{grown-as, grown-both, grown-none}
 use Rattle.masks.specs.Filling.{Masked, Noted, inLevel, inRow, inTriple, inTriples, isTriplet, shown}
 use Rattle.masks.specs.Masks.{Masks}
@@ -31,13 +31,14 @@ use Rattle.masks.specs.Masks.{Masks}
 
 pub isTriplet-says : (T : Tree) (a b c : ℕ) → isTriplet (says T a b c) ≡ resolves T a b c
 unfolding isTriplet
-isTriplet-says T a b c = go (holds T a b c) (holds T a c b) (holds T b c a)
+isTriplet-says T a b c = go (holds T a b c) (holds T a c b) (holds T b c a) (fan T a b c)
   where
-    go : (p q r : Bool) → isTriplet (cond p AB (cond q AC (cond r BC Nothing))) ≡ (p || (q || r))
-    go true q r = refl
-    go false true r = refl
-    go false false true = refl
-    go false false false = refl
+    go : (p q r f : Bool) → isTriplet (cond p AB (cond q AC (cond r BC (cond f Fan Absent)))) ≡ (p || (q || r))
+    go true q r f = refl
+    go false true r f = refl
+    go false false true f = refl
+    go false false false true = refl
+    go false false false false = refl
 
 module _ (T : Tree) (a b c : ℕ) where
   -- the order of the three species does not matter

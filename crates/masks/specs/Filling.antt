@@ -13,14 +13,15 @@ use Rattle.trees.specs.Triplets.{Triplets, onTriple, only}
 use Rattle.tables.specs.Bytes.{entered}
 use Rattle.groups.specs.Groups.{Meets, cell, cells, setOf}
 use Rattle.groups.specs.declared.Says.{Says}
-use Rattle.groups.specs.declared.Says.the-variants.{AB, AC, BC, Nothing}
+use Rattle.groups.specs.declared.Says.the-variants.{AB, AC, BC, Absent, Fan}
 
 -- what a tree says of a triple is one of the three triplets
 unfoldable pub isTriplet : Says → Bool
 isTriplet AB = true
 isTriplet AC = true
 isTriplet BC = true
-isTriplet Nothing = false
+isTriplet Fan = false
+isTriplet Absent = false
 
 -- m′ has what m has, and z in the mask of x and y where P tells xy|z
 pub record Masked (P : Triplets) (m m′ : List ℕ) : Type 0 where

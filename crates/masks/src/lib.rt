@@ -53,7 +53,8 @@ fn resolved(whole: u64, meets: &[u64; groups::CELLS], a: usize, b: usize, c: usi
         groups::Says::AB => true,
         groups::Says::AC => true,
         groups::Says::BC => true,
-        groups::Says::Nothing => false,
+        groups::Says::Fan => false,
+        groups::Says::Absent => false,
     }
 }
 

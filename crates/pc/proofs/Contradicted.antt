@@ -8,10 +8,10 @@ use Rattle.trees.proofs.Formed.{formed-e}
 use Rattle.trees.proofs.Splits.{holds-swap}
 use Rattle.trees.specs.Check.{differs}
 use Rattle.trees.specs.Trees.{Tree, wellFormed}
-use Rattle.trees.specs.Triplets.{Triplets, holds, onTriple}
+use Rattle.trees.specs.Triplets.{Triplets, fan, holds, onTriple}
 use Rattle.groups.specs.Groups.{says}
 use Rattle.groups.specs.declared.Says.{Says}
-use Rattle.groups.specs.declared.Says.the-variants.{AB, AC, BC, Nothing}
+use Rattle.groups.specs.declared.Says.the-variants.{AB, AC, BC, Absent, Fan}
 use Rattle.pc.specs.Contrary.{contrary}
 
 -- ---- over any tests: x, y and z tell whether ab|c, ac|b and bc|a are held, and no two of them are
@@ -35,15 +35,16 @@ unresolved false = refl
 abbrev Apart : Bool → Bool → Type 0
 Apart x y = So x → So y → ⊥
 
-by-tests : (x y z : Bool) → Apart x y → Apart x z → Apart y z → (p q r : Bool)
-    → contrary (cond x AB (cond y AC (cond z BC Nothing))) p q r ≡ (other p (x || (y || z)) x || (other q (y || (x || z)) y || other r (z || (x || y)) z))
-by-tests true true z xy xz yz p q r = absurd (xy refl refl)
-by-tests true false true xy xz yz p q r = absurd (xz refl refl)
-by-tests true false false xy xz yz p q r = rw (held p, kept q, kept r) refl
-by-tests false true true xy xz yz p q r = absurd (yz refl refl)
-by-tests false true false xy xz yz p q r = rw (held q, kept p, kept r) refl
-by-tests false false true xy xz yz p q r = rw (held r, kept p, kept q, or-false q) refl
-by-tests false false false xy xz yz p q r = rw (unresolved p, unresolved q, unresolved r) refl
+by-tests : (x y z f : Bool) → Apart x y → Apart x z → Apart y z → (p q r : Bool)
+    → contrary (cond x AB (cond y AC (cond z BC (cond f Fan Absent)))) p q r ≡ (other p (x || (y || z)) x || (other q (y || (x || z)) y || other r (z || (x || y)) z))
+by-tests true true z f xy xz yz p q r = absurd (xy refl refl)
+by-tests true false true f xy xz yz p q r = absurd (xz refl refl)
+by-tests true false false f xy xz yz p q r = rw (held p, kept q, kept r) refl
+by-tests false true true f xy xz yz p q r = absurd (yz refl refl)
+by-tests false true false f xy xz yz p q r = rw (held q, kept p, kept r) refl
+by-tests false false true f xy xz yz p q r = rw (held r, kept p, kept q, or-false q) refl
+by-tests false false false true xy xz yz p q r = rw (unresolved p, unresolved q, unresolved r) refl
+by-tests false false false false xy xz yz p q r = rw (unresolved p, unresolved q, unresolved r) refl
 
 -- ---- of a tree and entered triplets
 
@@ -55,7 +56,7 @@ module _ (E : Triplets) (T : Tree) (a b c : ℕ) (w : So (wellFormed T)) where
   held-tests =
       let f = formed-e T w in
       rw (either-way b c a, either-way a b c, either-way a c b)
-      (by-tests (holds T a b c) (holds T a c b) (holds T b c a)
+      (by-tests (holds T a b c) (holds T a c b) (holds T b c a) (fan T a b c)
       (exclusive T f a b c)
       (λ x z. exclusive T f b a c (holds-swap T a b c x) z)
       (λ y z. exclusive T f c a b (holds-swap T a c b y) (holds-swap T b c a z))

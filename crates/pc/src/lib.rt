@@ -8,7 +8,7 @@ ghost use Rattle.groups.specs.Groups.{Candidate};
 ghost use Rattle.tables.specs.Finds.{Finds};
 ghost use Rattle.pc.specs.Contrary.{contrary};
 
-// Does an entered triplet of a, b and c differ from the one that the tree says? Where it says nothing none does.
+// Does an entered triplet of a, b and c differ from the one that the tree says? Where it says no triplet none does.
 fn against(s: groups::Says, e: tables::Bits) -> bool
     ensures { λ r. ⌜ r ≡ contrary s (e .ab) (e .ac) (e .bc) ⌝ }
 {
@@ -16,7 +16,8 @@ fn against(s: groups::Says, e: tables::Bits) -> bool
         groups::Says::AB => e.ac | e.bc,
         groups::Says::AC => e.ab | e.bc,
         groups::Says::BC => e.ab | e.ac,
-        groups::Says::Nothing => false,
+        groups::Says::Fan => false,
+        groups::Says::Absent => false,
     }
 }
 

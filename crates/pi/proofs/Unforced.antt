@@ -1,5 +1,5 @@
 -- For a tree that nothing contradicts, one look at the core of two species decides the triplet on a triple. Assumes nothing.
-use mathlib.Core.Bool.{Bool, So, _&&_, cond, false, not, or-false, true}
+use mathlib.Core.Bool.{Bool, So, _&&_, false, not, or-false, true}
 use mathlib.Core.List.{List}
 use mathlib.Core.Logic.{_≢_}
 use mathlib.Core.Path.{_∙_, _≡_, ap, refl, subst, sym}
@@ -7,7 +7,7 @@ use Prim.Native.Nat.{_+_, _<_, ℕ}
 use native.Mathlib.Omega.{arith}
 use borrow.Author.Tests.{not-true}
 use lib.ListN.{length}
-use Rattle.sets.proofs.Bools.{and-i, not-i, or-case, or-l, or-r, test}
+use Rattle.sets.proofs.Bools.{and-i, not-i, or-case, or-l, or-none, or-r, test}
 use Rattle.sets.proofs.Tests.{number-is}
 use Rattle.sets.specs.Sets.{has}
 use Rattle.sets.specs.Species.{Below, Inside, Species, either, members}
@@ -21,12 +21,15 @@ use Rattle.trees.proofs.Splits.{holds-e, holds-i, holds-proper, holds-swap}
 use Rattle.trees.proofs.Triples.{swap-same}
 use Rattle.trees.specs.Check.{R, core, sure, unsure}
 use Rattle.trees.specs.Trees.{Siblings, Tree, under}
-use Rattle.trees.specs.Triplets.{Triplets, holds, onTriple}
+use Rattle.trees.specs.Triplets.{Triplets, different, holds, onTriple}
 use Rattle.tables.specs.Index.{index}
 use Rattle.groups.proofs.Common.{common-e, common-i}
-use Rattle.groups.specs.Groups.{common, cell, cells, says}
+use Rattle.groups.proofs.Meant.{says-exactly}
+use Rattle.groups.specs.Groups.{SaysRight, common, cell, cells, says}
 use Rattle.groups.specs.declared.Says.{Says}
-use Rattle.groups.specs.declared.Says.the-variants.{AB, AC, BC, Nothing}
+use Rattle.groups.specs.declared.Says.the-variants.{AB, AC, BC}
+use Rattle.masks.proofs.Triples.{isTriplet-says}
+use Rattle.masks.specs.Filling.{isTriplet}
 use Rattle.pi.specs.Cores.{IsCore, Memo, Uncontradicted}
 use Rattle.tables.specs.Finds.{Finds}
 use Rattle.tables.specs.declared.Found.the-variants.{At}
@@ -49,19 +52,6 @@ common-near T s s′ w sib a c ha hc x h =
           (λ i. exclusive T w a x c (made T s s′ w sib a x c ha i hc (o .ac)) k)
           (λ i. exclusive T w c x a (made T s′ s w (siblings-swap T s s′ sib) c x a hc i ha (o .bc)) (holds-swap T a c x k));
     })
-
--- what the word of a tree means, where it holds h, i or j of the three triplets on a triple
-abbrev Means : Bool → Bool → Bool → Says → Type 0
-Means h i j AB = So h
-Means h i j AC = So i
-Means h i j BC = So j
-Means h i j Nothing = (h ≡ false) × (i ≡ false) × (j ≡ false)
-
-means : (h i j : Bool) → Means h i j (cond h AB (cond i AC (cond j BC Nothing)))
-means true i j = refl
-means false true j = refl
-means false false true = refl
-means false false false = (refl, refl, refl)
 
 -- of the three triplets on a triple at most one is held, and is sure or not
 module _ (H S : Triplets) (a b c : ℕ) where
@@ -116,28 +106,31 @@ module _ (E : Triplets) (n : ℕ) (T : Tree) (whole : ℕ) (meets masks : List �
   other-swap a b c h = other b a c (holds-swap T a b c h)
 
   -- s is what T says of a, b and c, and x the core that is looked at
-  module _ (a b c : ℕ) (s : Says) (is : s ≡ says T a b c) where
-    meant : (s′ : Says) → s ≡ s′ → Means (holds T a b c) (holds T a c b) (holds T b c a) s′
-    meant s′ e = subst (Means (holds T a b c) (holds T a c b) (holds T b c a)) (sym is ∙ e) (means (holds T a b c) (holds T a c b) (holds T b c a))
+  module _ (a b c : ℕ) (d : So (different a b c)) (s : Says) (is : s ≡ says T a b c) where
+    meant : SaysRight T a b c s
+    meant = subst (SaysRight T a b c) (sym is) (says-exactly T a b c (u .tree .drawn .formed) d)
 
     pub look-ab : s ≡ AB → (x : ℕ) → IsCore (R E T) (cell meets a c) a c x → not (has x b) ≡ onTriple (unsure E n T) a b c
-    look-ab e x k = let h = meant AB e in let o = holds-e T a b c h in
+    look-ab e x k = let h = meant .ab .0 e in let o = holds-e T a b c h in
         one (holds T) (sure E n T) a b c (has x b) h (other a b c h) (other-swap a b c h)
         (sure-core E (u .proper) n T w (u .tree .below) agrees a b c (has x) (near-core a c x (o .ac) (o .in-a) (o .in-c) k) h)
 
     pub look-ac : s ≡ AC → (x : ℕ) → IsCore (R E T) (cell meets a b) a b x → not (has x c) ≡ onTriple (unsure E n T) a b c
-    look-ac e x k = let h = meant AC e in let o = holds-e T a c b h in
+    look-ac e x k = let h = meant .ac .0 e in let o = holds-e T a c b h in
         two (holds T) (sure E n T) a b c (has x c) (other a c b h) h (swap-same (holds T) (holds-proper T) b c a ∙ other-swap a c b h)
         (sure-core E (u .proper) n T w (u .tree .below) agrees a c b (has x) (near-core a b x (o .ac) (o .in-a) (o .in-c) k) h)
 
     pub look-bc : s ≡ BC → (x : ℕ) → IsCore (R E T) (cell meets a b) a b x → not (has x c) ≡ onTriple (unsure E n T) a b c
-    look-bc e x k = let h = meant BC e in let o = holds-e T b c a h in
+    look-bc e x k = let h = meant .bc .0 e in let o = holds-e T b c a h in
         three (holds T) (sure E n T) a b c (has x c) (swap-same (holds T) (holds-proper T) a b c ∙ other b c a h) (swap-same (holds T) (holds-proper T) a c b ∙ other-swap b c a h) h
         (sure-core E (u .proper) n T w (u .tree .below) agrees b c a (has x)
         (core-turn (R E T) (under T) a b (has x) (near-core a b x (λ q. o .ac (sym q)) (o .in-c) (o .in-a) k)) h)
 
-    pub look-none : s ≡ Nothing → false ≡ onTriple (unsure E n T) a b c
-    look-none e = let h = meant Nothing e in none (holds T) (sure E n T) a b c (h .0) (h .1) (h .2)
+    pub look-none : isTriplet s ≡ false → false ≡ onTriple (unsure E n T) a b c
+    look-none e =
+        let f = or-none (holds T a b c) _ (sym (isTriplet-says T a b c) ∙ ap isTriplet (sym is) ∙ e) in
+        let g = or-none (holds T a c b) (holds T b c a) (f .1) in
+        none (holds T) (sure E n T) a b c (f .0) (g .0) (g .1)
 
 -- ---- the search
 

@@ -59,7 +59,7 @@ fn core_of(
     found
 }
 
-// Is the triplet of the tree on a < b < c forced? One look at a core tells. A fan has no triplet.
+// Is the triplet of the tree on a < b < c forced? One look at a core tells. A fan has no triplet, nor have species that are not all here.
 fn sure_at(
     whole: u64,
     meets: &[u64; groups::CELLS],
@@ -78,7 +78,8 @@ fn sure_at(
         groups::Says::AB => sets::has(core_of(masks, meets, cores, a, c), b),
         groups::Says::AC => sets::has(core_of(masks, meets, cores, a, b), c),
         groups::Says::BC => sets::has(core_of(masks, meets, cores, a, b), c),
-        groups::Says::Nothing => true,
+        groups::Says::Fan => true,
+        groups::Says::Absent => true,
     }
 }
 

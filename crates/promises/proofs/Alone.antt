@@ -1,20 +1,19 @@
--- The collection of one good tree: it is a good collection, the tree's body is the body, and its table is the table of what the tree holds.
+-- The collection of one good tree: it is a good collection, the tree's body is the body, and its table is the table of what the tree says.
 -- Assumes nothing.
 use mathlib.Core.Bool.{false}
 use mathlib.Core.List.{List}
-use mathlib.Core.Path.{_∙_, _≡_, ap, fun-ext, refl, subst, sym}
+use mathlib.Core.Path.{_∙_, _≡_, ap, refl, subst, sym}
 use Prim.Native.Nat.{_+_, _<_, _≤_, suc, zero, ℕ}
 use native.Mathlib.Omega.{arith}
 use lib.ListN.{length}
 use lib.Seq.{take-length}
-use Rattle.trees.specs.Triplets.{holds}
-use Rattle.tables.specs.Filled.{tableFor}
+use Rattle.tables.specs.Filled.{saidBy, tableFor}
 use Rattle.tables.specs.Index.{C}
 use Rattle.bodies.specs.Draws.{treeOf}
 use Rattle.bodies.specs.Nodes.{Good, badLength, nodes}
 use Rattle.collections.specs.Collection.{Collection}
 use Rattle.collections.specs.Layout.{bodyAt, lengthAt, start}
-use Rattle.listing.specs.Lists.{heldUpTo}
+use Rattle.listing.specs.Lists.{saidUpTo}
 use Rattle.promises.specs.Operations.{Given, lists}
 use Rattle.answers.specs.Inputs.{Body, Count}
 use Rattle.promises.specs.Demand3.{alone, tableOf}
@@ -59,9 +58,9 @@ module _ (n : ℕ) (b : List ℕ) where
         good zero l = subst (λ (u : List ℕ). Good n (nodes u)) (sym alone-body) (g .good)
         good (suc k) l = absurd (omega arith)
 
-    alone-held : heldUpTo (alone n b) 1 ≡ holds (treeOf b)
-    unfolding heldUpTo
-    alone-held = fun-ext (λ x. fun-ext (λ y. fun-ext (λ z. ap (λ (u : List ℕ). holds (treeOf u) x y z) alone-body)))
+    alone-said : saidUpTo (alone n b) 1 ≡ saidBy (treeOf b)
+    unfolding saidUpTo
+    alone-said = ap (λ (u : List ℕ). saidBy (treeOf u)) alone-body
 
-    pub alone-table : (t : List ℕ) → length t ≡ C n 3 → tableOf lists n b t ≡ tableFor n (holds (treeOf b))
-    alone-table t l = ap (λ (h : Given). h .after) (lists-is (alone n b) t (record { collection = alone-collection; long = l })) ∙ ap (tableFor n) alone-held
+    pub alone-table : (t : List ℕ) → length t ≡ C n 3 → tableOf lists n b t ≡ tableFor n (saidBy (treeOf b))
+    alone-table t l = ap (λ (h : Given). h .after) (lists-is (alone n b) t (record { collection = alone-collection; long = l })) ∙ ap (tableFor n) alone-said

@@ -16,7 +16,7 @@ use Rattle.trees.proofs.Triplets.{only-e, only-i}
 use Rattle.trees.specs.Triplets.{Proper, only}
 use Rattle.tables.proofs.Telling.{table-tells, told-as, told-is}
 use Rattle.tables.specs.Bytes.{entered}
-use Rattle.tables.specs.Filled.{tableFor}
+use Rattle.tables.specs.Filled.{plain, tableFor}
 use Rattle.answers.specs.Answers.{told}
 use Rattle.entering.specs.Enters.{entry, entryValues, inRecord, inRecords, left, occursIn, outer, right}
 use Rattle.promises.specs.Operations.{Given, enters, gives}
@@ -24,7 +24,7 @@ use Rattle.answers.specs.Inputs.{Count, Table}
 use Rattle.promises.specs.Inputs.{Enterable, Triplet}
 use Rattle.promises.specs.Demand2.{EntersRight, IsSet, RecordHas, RecordSays, SomeRecordHas, SomeRecordSays}
 use Rattle.promises.proofs.Accepted.{enter-pass}
-use Rattle.promises.proofs.Tabled.{Within, table-exact, table-good}
+use Rattle.promises.proofs.Tabled.{Speaks, table-exact, table-good}
 
 -- one record
 module _ (r : List ℕ) (x y z : ℕ) where
@@ -88,7 +88,7 @@ module _ (n : ℕ) (rs : List (List ℕ)) (c : Count n) (g : (i : ℕ) → i < l
   occurring-in x = subst (λ (S : Species). So (S x) ↔ SomeRecordHas rs x) (sym occurring-in-has) (has-e rs x, λ r. has-i rs x (r .0) (r .1) (r .2))
 
 module _ (n : ℕ) (rs : List (List ℕ)) (t : List ℕ) (g : Enterable n rs t) where
-  pub enters-is : enters n rs t ≡ gives (told 0 (entryValues (entry n rs))) (tableFor n (inRecords rs))
+  pub enters-is : enters n rs t ≡ gives (told 0 (entryValues (entry n rs))) (tableFor n (plain (inRecords rs)))
   enters-is = rw (enter-pass n rs t .1 g) refl
 
   pub good-entered : EntersRight n rs (enters n rs t)
@@ -96,7 +96,7 @@ module _ (n : ℕ) (rs : List (List ℕ)) (t : List ℕ) (g : Enterable n rs t) 
     set = number 64 (occursIn rs);
     told-is = refl;
     occurs = occurring-in n rs (g .count) (g .records);
-    table = told-as n (tableFor n (inRecords rs)) (records-some rs) (table-tells n (inRecords rs));
+    table = told-as n (tableFor n (plain (inRecords rs))) (records-some rs) (λ x y z. (false≢true, λ k. absurd k)) (table-tells n (plain (inRecords rs)));
   })
 
 module _ (n : ℕ) (rs : List (List ℕ)) (g : (i : ℕ) → i < length rs → Triplet n (getD rs i [])) where
@@ -131,8 +131,8 @@ module _ (n : ℕ) (rs : List (List ℕ)) (g : (i : ℕ) → i < length rs → T
       let i : (u : ℕ) → RecordHas (getD rs (r .0) []) u → So (occursIn rs u) = λ u k. has-i rs u (r .0) (r .1) k in
       ⊎-elim (λ w. (i x (inl (w .0)), i y (inr (inl (w .1))), i z (inr (inr (r .2 .1))))) (λ w. (i x (inr (inl (w .1))), i y (inl (w .0)), i z (inr (inr (r .2 .1))))) (r .2 .0)
 
-  pub records-within : Within n (inRecords rs)
-  records-within x y z h = let r = record-of x y z h in (r .0, r .1, r .2)
+  pub records-speak : Speaks n (inRecords rs)
+  records-speak x y z h = let r = record-of x y z h in (r .0, r .1, r .2)
 
   pub records-proper : Proper (inRecords rs)
   records-proper = record {
@@ -143,12 +143,12 @@ module _ (n : ℕ) (rs : List (List ℕ)) (g : (i : ℕ) → i < length rs → T
 
   -- what the demand asks of the table tells all of it: it is a good table, and what is entered in it is what some record says
   module _ (o : Given) (r : EntersRight n rs o) where
-    pub entered-is : o .after ≡ tableFor n (inRecords rs)
-    entered-is = told-is n (inRecords rs) (o .after) (told-as n (o .after) (λ x y z. let s = records-some rs x y z in (s .1, s .0)) (r .table))
+    pub entered-is : o .after ≡ tableFor n (plain (inRecords rs))
+    entered-is = told-is n (plain (inRecords rs)) (o .after) (told-as n (o .after) (λ x y z. let s = records-some rs x y z in (s .1, s .0)) (λ x y z. ((λ k. absurd k), false≢true)) (r .table))
 
     pub entered-good : Table n (o .after)
-    entered-good = subst (Table n) (sym entered-is) (table-good n (inRecords rs))
+    entered-good = subst (Table n) (sym entered-is) (table-good n (plain (inRecords rs)))
 
     pub entered-exact : (x y z : ℕ) → So (entered (o .after) x y z) ↔ SomeRecordSays rs x y z
     entered-exact x y z = subst (λ (q : Bool). So q ↔ SomeRecordSays rs x y z)
-        (sym (ap (λ (t : List ℕ). entered t x y z) entered-is ∙ table-exact n (inRecords rs) records-proper records-within x y z)) (records-some rs x y z)
+        (sym (ap (λ (t : List ℕ). entered t x y z) entered-is ∙ table-exact n (plain (inRecords rs)) records-proper records-speak x y z)) (records-some rs x y z)

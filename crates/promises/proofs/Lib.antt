@@ -20,5 +20,6 @@ pub mod UselessTexts
 pub mod Runs
 pub mod Own
 pub mod Occurring
+pub mod Fans
 pub mod Ties
 pub mod Forms

@@ -1,5 +1,5 @@
 -- The set that occurs, as listing and entering return it, is one that the build takes with the table that they fill. Assumes nothing.
-use mathlib.Core.Bool.{Bool, So, true, false}
+use mathlib.Core.Bool.{Bool, So, true, false, false≢true}
 use mathlib.Core.List.{List, [], _∷_}
 use mathlib.Core.Logic.{_≢_}
 use mathlib.Core.Path.{_∙_, _≡_, ap, refl, subst, sym}
@@ -13,10 +13,11 @@ use Rattle.sets.proofs.Tests.{true-has}
 use Rattle.sets.specs.Sets.{has, number, size}
 use Rattle.sets.specs.Species.{Below, Species}
 use Rattle.trees.proofs.Splits.{holds-e}
+use Rattle.trees.proofs.Triplets.{fan-in}
 use Rattle.trees.specs.Build.{Outcome, stop, tree}
 use Rattle.trees.specs.Trees.{under}
 use Rattle.tables.specs.Bytes.{entered}
-use Rattle.tables.specs.Filled.{tableFor}
+use Rattle.tables.specs.Filled.{plain, tableFor}
 use Rattle.bodies.specs.Draws.{treeOf}
 use Rattle.bodies.specs.Nodes.{roomFor}
 use Rattle.outside.specs.Reaches.{Enclosed}
@@ -36,12 +37,12 @@ use Rattle.collections.specs.Collection.{Collection}
 use Rattle.collections.specs.Layout.{bodyAt, species, trees}
 use Rattle.collections.specs.Occurs.{occurring}
 use Rattle.entering.specs.Enters.{inRecords, occursIn}
-use Rattle.listing.specs.Lists.{heldUpTo, listOf}
+use Rattle.listing.specs.Lists.{listOf, saidUpTo}
 use Rattle.promises.specs.Inputs.{Triplet}
 use Rattle.promises.specs.Operations.{Given, builds, enters, koodhaxil, lists}
 use Rattle.promises.specs.Together.{OccurringTaken, Taken}
-use Rattle.promises.proofs.Entered.{enters-is, occurring-in-has, occurs-in-below, records-proper, records-within, said-occurs}
-use Rattle.promises.proofs.Listed.{held-proper, held-some, held-within, lists-is, occurring-has, occurs-below, occurs-some}
+use Rattle.promises.proofs.Entered.{enters-is, occurring-in-has, occurs-in-below, said-occurs}
+use Rattle.promises.proofs.Listed.{fanned-some, held-some, lists-is, occurring-has, occurs-below, occurs-some}
 use Rattle.promises.proofs.Promises.{accepted}
 use Rattle.promises.proofs.Tabled.{table-enclosed, table-good}
 
@@ -107,24 +108,22 @@ module _ (b : List ℕ) (w : Collection b) where
   occurring-below x h = occurs-below b w x (ap (λ (S : Species). S x) (sym (occurring-has b w)) ∙ h)
 
   pub occurring-enclosed : Enclosed (species b) (occurring b) (listOf b)
-  occurring-enclosed = table-enclosed (species b) (occurring b) (heldUpTo b (trees b)) (held-proper b (trees b)) (held-within b w) all
+  occurring-enclosed = table-enclosed (species b) (occurring b) (saidUpTo b (trees b))
+      (λ x y z h. let r = held-some b (trees b) x y z .0 h in let o = holds-e (treeOf (bodyAt b (r .0))) x y z (r .2) in (here (r .0) (r .1) x (o .in-a), here (r .0) (r .1) y (o .in-b), here (r .0) (r .1) z (o .in-c)))
+      (λ x y z h. let r = fanned-some b (trees b) x y z .0 h in let o = fan-in (treeOf (bodyAt b (r .0))) x y z (r .2) in (here (r .0) (r .1) x (o .0), here (r .0) (r .1) y (o .1), here (r .0) (r .1) z (o .2)))
     where
-      all : (x y z : ℕ) → So (heldUpTo b (trees b) x y z) → So (has (occurring b) x) × So (has (occurring b) y) × So (has (occurring b) z)
-      all x y z h =
-          let r = held-some b (trees b) x y z .0 h in
-          let o = holds-e (treeOf (bodyAt b (r .0))) x y z (r .2) in
-          let i : (v : ℕ) → So (under (treeOf (bodyAt b (r .0))) v) → So (has (occurring b) v) = λ v k. ap (λ (S : Species). S v) (occurring-has b w) ∙ occurs-some b (trees b) v .1 (r .0, r .1, k) in
-          (i x (o .in-a), i y (o .in-b), i z (o .in-c))
+      here : (k : ℕ) → k < trees b → (v : ℕ) → So (under (treeOf (bodyAt b k)) v) → So (has (occurring b) v)
+      here k l v h = ap (λ (S : Species). S v) (occurring-has b w) ∙ occurs-some b (trees b) v .1 (k, l, h)
 
   listed-taken : Taken koodhaxil (species b) (occurring b) (listOf b)
-  listed-taken = is-taken (species b) (occurring b) (listOf b) (record { some = w .some; most = w .most }) (table-good (species b) (heldUpTo b (trees b))) occurring-below occurring-enclosed
+  listed-taken = is-taken (species b) (occurring b) (listOf b) (record { some = w .some; most = w .most }) (table-good (species b) (saidUpTo b (trees b))) occurring-below occurring-enclosed
 
 -- of records
 module _ (n : ℕ) (rs : List (List ℕ)) (c : Count n) (g : (i : ℕ) → i < length rs → Triplet n (getD rs i [])) where
-  entered-taken : Taken koodhaxil n (number 64 (occursIn rs)) (tableFor n (inRecords rs))
-  entered-taken = is-taken n (number 64 (occursIn rs)) (tableFor n (inRecords rs)) c (table-good n (inRecords rs))
+  entered-taken : Taken koodhaxil n (number 64 (occursIn rs)) (tableFor n (plain (inRecords rs)))
+  entered-taken = is-taken n (number 64 (occursIn rs)) (tableFor n (plain (inRecords rs))) c (table-good n (plain (inRecords rs)))
       (λ x h. occurs-in-below n rs c g x (ap (λ (S : Species). S x) (sym (occurring-in-has n rs c g)) ∙ h))
-      (table-enclosed n (number 64 (occursIn rs)) (inRecords rs) (records-proper n rs g) (records-within n rs g) all)
+      (table-enclosed n (number 64 (occursIn rs)) (plain (inRecords rs)) all (λ x y z h. absurd (false≢true h)))
     where
       all : (x y z : ℕ) → So (inRecords rs x y z) → So (has (number 64 (occursIn rs)) x) × So (has (number 64 (occursIn rs)) y) × So (has (number 64 (occursIn rs)) z)
       all x y z h =

@@ -15,13 +15,14 @@ use Rattle.trees.proofs.Formed.{formed-e}
 use Rattle.trees.proofs.Lowest.{lowest-in}
 use Rattle.trees.proofs.Splits.{holds-e, holds-proper}
 use Rattle.trees.proofs.Theorems.{rebuild}
+use Rattle.trees.proofs.Triplets.{fan-in}
 use Rattle.trees.specs.Build.{tree}
 use Rattle.trees.specs.Trees.{SameGroups, house, lowest, under, wellFormed}
 use Rattle.trees.specs.Triplets.{holds}
 use Rattle.tables.proofs.Bytes.{entered-proper}
 use Rattle.tables.proofs.Known.{known-by-table}
 use Rattle.tables.specs.Bytes.{entered}
-use Rattle.tables.specs.Filled.{tableFor}
+use Rattle.tables.specs.Filled.{saidBy, tableFor}
 use Rattle.tables.specs.Index.{C}
 use Rattle.bodies.proofs.Back.{body-length, set-room}
 use Rattle.bodies.proofs.Drawn.{tree-below}
@@ -41,7 +42,7 @@ use Rattle.promises.specs.Demand3.{Full, Returns, tableOf}
 use Rattle.promises.proofs.Alone.{alone-table}
 use Rattle.promises.proofs.Built.{builds-tree}
 use Rattle.promises.proofs.Ordered.{in-house, ordered-body, ordered-same}
-use Rattle.promises.proofs.Tabled.{Within, table-enclosed, table-exact, table-good}
+use Rattle.promises.proofs.Tabled.{Speaks, table-enclosed, table-exact, table-good}
 use Rattle.promises.proofs.Wrote.{front-is, wrote}
 
 module _ (n s : ℕ) (b : List ℕ) (c : Count n) (f : Full n s b) where
@@ -63,21 +64,22 @@ module _ (n s : ℕ) (b : List ℕ) (c : Count n) (f : Full n s b) where
 
   -- the table of the tree
   abbrev its : List ℕ
-  its = tableFor n (holds (treeOf b))
+  its = tableFor n (saidBy (treeOf b))
 
   its-good : Table n its
-  its-good = table-good n (holds (treeOf b))
+  its-good = table-good n (saidBy (treeOf b))
 
-  within : Within n (holds (treeOf b))
-  within x y z h = let o = holds-e (treeOf b) x y z h in (tree-in x (o .in-a), tree-in y (o .in-b), tree-in z (o .in-c))
+  speaks : Speaks n (holds (treeOf b))
+  speaks x y z h = let o = holds-e (treeOf b) x y z h in (tree-in x (o .in-a), tree-in y (o .in-b), tree-in z (o .in-c))
 
   its-exact : (x y z : ℕ) → entered its x y z ≡ holds (treeOf b) x y z
-  its-exact = table-exact n (holds (treeOf b)) (holds-proper (treeOf b)) within
+  its-exact = table-exact n (saidBy (treeOf b)) (holds-proper (treeOf b)) speaks
 
   -- it says nothing of other species
   its-enclosed : Enclosed n s its
-  its-enclosed = table-enclosed n s (holds (treeOf b)) (holds-proper (treeOf b)) within
+  its-enclosed = table-enclosed n s (saidBy (treeOf b))
       (λ x y z h. let o = holds-e (treeOf b) x y z h in (sym (f .every x) ∙ o .in-a, sym (f .every y) ∙ o .in-b, sym (f .every z) ∙ o .in-c))
+      (λ x y z h. let o = fan-in (treeOf b) x y z h in (sym (f .every x) ∙ o .0, sym (f .every y) ∙ o .1, sym (f .every z) ∙ o .2))
 
   its-outcome : outcome n s its ≡ tree (house (treeOf b))
   unfolding outcome

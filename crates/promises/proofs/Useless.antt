@@ -25,8 +25,8 @@ use Rattle.trees.specs.Links.{Walk, leads, part, parts, stay, via}
 use Rattle.trees.specs.Trees.{SameGroups, Tree, cons, inHouseOrder, leaf, nil, node, under}
 use Rattle.tables.proofs.Bytes.{entered-empty, entered-proper, entered-zeros}
 use Rattle.tables.proofs.Limits.{small-exactly}
-use Rattle.tables.specs.Bytes.{bitOf, entered, over, placeOf}
-use Rattle.tables.specs.Filled.{bytesFrom, tableFor}
+use Rattle.tables.specs.Bytes.{bitOf, entered, fanBit, over, placeOf}
+use Rattle.tables.specs.Filled.{bytesFrom, plain, tableFor}
 use Rattle.tables.specs.Index.{C, highAt, index, largest, lowAt, midAt}
 use Rattle.bodies.proofs.Back.{body-back, body-length, set-room}
 use Rattle.bodies.proofs.Rules.{no-fault}
@@ -39,7 +39,7 @@ use Rattle.collections.proofs.Whole.{read-pass}
 use Rattle.collections.specs.Collection.{Collection}
 use Rattle.collections.specs.Layout.{start}
 use Rattle.collections.specs.Reads.{looksFrom, readLooks}
-use Rattle.listing.specs.Lists.{heldUpTo}
+use Rattle.listing.specs.Lists.{saidUpTo}
 use Rattle.building.proofs.Chosen.{set-below, set-small}
 use Rattle.building.proofs.Numbered.{not-empty}
 use Rattle.building.specs.Builds.{outcome}
@@ -48,7 +48,7 @@ use Rattle.promises.specs.Inputs.{Buildable, Listable}
 use Rattle.promises.specs.Demand2.{ChecksRight, FirstTriple, Keeps, front}
 use Rattle.promises.specs.Demand3.{Full, tableOf}
 use Rattle.promises.specs.Runs.{cherryBody, fanBody}
-use Rattle.promises.specs.Useless.{ClosingBreaks, ClosingHeld, FirstAloneBreaks, FirstBreaks, FixedBreaks, Gives, Invents, InventingBreaks, LenientBreaks, ListsFirst, Misjudges, MisjudgingBreaks, RefusingBreaks, RefusingBreaksRebuilding, SilentBreaks, StarryBreaks, Tells99Breaks, firstAlone, lenient, onZero, star, starry, tells99}
+use Rattle.promises.specs.Useless.{ClosingBreaks, ClosingHeld, FanlessBreaks, FirstAloneBreaks, FirstBreaks, FixedBreaks, Gives, Invents, InventingBreaks, LenientBreaks, ListsFirst, Misjudges, MisjudgingBreaks, RefusingBreaks, RefusingBreaksRebuilding, SilentBreaks, StarryBreaks, Tells99Breaks, firstAlone, lenient, onZero, star, starry, tells99}
 use Rattle.promises.proofs.Alone.{alone-table}
 use Rattle.promises.proofs.Built.{builds-tree, good-built}
 use Rattle.promises.proofs.Checked.{good-checked}
@@ -332,10 +332,10 @@ unfolding readLooks looksFrom start fault firstBreak seen children
 papers-good = read-pass papers .0 refl
 
 first-table : List ℕ
-first-table = tableFor 3 (heldUpTo papers 1)
+first-table = tableFor 3 (saidUpTo papers 1)
 
 first-lacks : has (getD first-table (index 0 1 2) 0) 0 ≡ false
-unfolding first-table start children treeAt tableFor bytesFrom heldUpTo index C largest highAt midAt lowAt digit
+unfolding first-table start children treeAt tableFor bytesFrom saidUpTo index C largest highAt midAt lowAt digit
 first-lacks = refl
 
 pub first-alone-breaks : FirstBreaks
@@ -350,3 +350,20 @@ firstAlone-lists b t g = ap (λ (h : Given). h .after) (on-zero (lists b t) _ (a
 
 pub firstAlone-breaks : FirstAloneBreaks
 firstAlone-breaks = first-alone-breaks firstAlone firstAlone-lists
+
+-- ---- no fan: of the same two trees
+
+fanless-table : List ℕ
+fanless-table = tableFor 3 (plain (saidUpTo papers 2 .triplets))
+
+fanless-lacks : has (getD fanless-table (index 0 1 2) 0) fanBit ≡ false
+unfolding fanless-table start children treeAt tableFor bytesFrom saidUpTo index C largest highAt midAt lowAt digit
+fanless-lacks = refl
+
+pub fanless-breaks : FanlessBreaks
+unfolding fanless-table start children treeAt C
+fanless-breaks d =
+    let g : Listable papers unsaid = record { collection = papers-good; long = refl } in
+    let h = d papers unsaid g .table .bytes 0 1 2 (omega arith) (omega arith) (omega arith) .fan .1 (0, omega arith, refl) in
+    let e = ap (λ (h : Given). h .after) (on-zero (lists papers unsaid) _ (ap (λ (h : Given). h .told .number) (lists-is papers unsaid g))) in
+    false≢true (sym fanless-lacks ∙ subst (λ (t : List ℕ). So (has (getD t (index 0 1 2) 0) fanBit)) e h)

@@ -14,7 +14,7 @@ use Rattle.trees.specs.Check.{Forced, PC, PI, R, differs}
 use Rattle.trees.specs.Held.{CanBeHeld, HeldBy}
 use Rattle.trees.specs.Links.{JoinedByWalks}
 use Rattle.trees.specs.Trees.{SameGroups, Tree, inHouseOrder, under}
-use Rattle.trees.specs.Triplets.{Triplets, holds, onTriple}
+use Rattle.trees.specs.Triplets.{Triplets, fan, holds, onTriple}
 use Rattle.tables.specs.Bytes.{entered}
 use Rattle.tables.specs.Index.{index}
 use Rattle.tables.specs.Tells.{TableTells}
@@ -53,10 +53,14 @@ ReadsAll f = (b : List ℕ) → ((f b .number ≡ 0) ↔ Collection b) × (Colle
 abbrev pub SomeTreeHolds : List ℕ → ℕ → ℕ → ℕ → Type 0
 SomeTreeHolds b x y z = (k : ℕ) × (k < trees b) × So (holds (treeOf (bodyAt b k)) x y z)
 
--- "sets exactly the bits that at least one of its trees holds, over all trees"
+-- some tree of the collection has x, y and z as a fan
+abbrev pub SomeTreeFans : List ℕ → ℕ → ℕ → ℕ → Type 0
+SomeTreeFans b x y z = (k : ℕ) × (k < trees b) × So (fan (treeOf (bodyAt b k)) x y z)
+
+-- "sets exactly the bits that at least one of its trees holds, over all trees"; request T-05: "adds 8 to a table byte where some tree holds all three as a fan"
 pub record ListsRight (b : List ℕ) (g : Given) : Type 0 where
   pub reads : ReadsRight b (g .told)
-  pub table : TableTells (species b) (SomeTreeHolds b) (g .after)
+  pub table : TableTells (species b) (SomeTreeHolds b) (SomeTreeFans b) (g .after)
 
 abbrev pub ListsAll : Lister → Type 0
 ListsAll f = (b t : List ℕ) → Listable b t → ListsRight b (f b t)
@@ -77,12 +81,12 @@ RecordHas r x = (left r ≡ x) ⊎ ((right r ≡ x) ⊎ (outer r ≡ x))
 abbrev pub SomeRecordHas : List (List ℕ) → ℕ → Type 0
 SomeRecordHas rs x = (i : ℕ) × (i < length rs) × RecordHas (getD rs i []) x
 
--- "entering returns n"; request T-03: "also [..] the set that occurs"
+-- "entering returns n"; request T-03: "also [..] the set that occurs"; request T-05: "Entering never sets 8"
 pub record EntersRight (n : ℕ) (rs : List (List ℕ)) (g : Given) : Type 0 where
   pub set : ℕ
   pub told-is : g .told ≡ told 0 (value species-count n ∷ value occurring-set set ∷ [])
   pub occurs : IsSet set (SomeRecordHas rs)
-  pub table : TableTells n (SomeRecordSays rs) (g .after)
+  pub table : TableTells n (SomeRecordSays rs) (λ x y z. ⊥) (g .after)
 
 abbrev pub EntersAll : Enterer → Type 0
 EntersAll f = (n : ℕ) (rs : List (List ℕ)) (t : List ℕ) → Enterable n rs t → EntersRight n rs (f n rs t)

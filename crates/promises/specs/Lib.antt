@@ -7,6 +7,7 @@ pub mod Accepts
 pub mod Demand3
 pub mod Newick
 pub mod Together
+pub mod Fans
 pub mod Useless
 pub mod Tied
 pub mod Linked

@@ -15,14 +15,14 @@ use Rattle.sets.proofs.Tests.{has-union}
 use Rattle.sets.proofs.Zeros.{zero-at}
 use Rattle.sets.specs.Sets.{has, single, union}
 use Rattle.trees.proofs.Triplets.{different-i}
-use Rattle.trees.specs.Triplets.{Triplets, both, different, only}
+use Rattle.trees.specs.Triplets.{different, only}
 use Rattle.tables.proofs.Bytes.{enter-length, enter-stays}
 use Rattle.tables.proofs.Fillings.{byte-both, table-at, table-length}
 use Rattle.tables.proofs.Indices.{index-inj, triple-back}
 use Rattle.tables.proofs.Places.{bit-ab, bit-ac, bit-bc, bit-most, place-ab, place-ac, place-bc, same-only}
 use Rattle.tables.specs.Adds.{Adds}
 use Rattle.tables.specs.Bytes.{added, bitOf, enter, placeOf}
-use Rattle.tables.specs.Filled.{byteFor, byteOf, tableFor}
+use Rattle.tables.specs.Filled.{Said, bothSaid, byteFor, byteOf, plain, tableFor}
 use Rattle.tables.specs.Index.{C, highAt, index, lowAt, midAt}
 
 -- ---- stretch after stretch
@@ -55,7 +55,7 @@ module _ (w : ℕ → ℕ → ℕ → ℕ) where
 -- ---- source after source
 
 -- what says nothing adds nothing
-pub adds-nothing : (lo hi : ℕ) (t : List ℕ) → Adds (byteFor (λ a b c. false)) lo hi t t
+pub adds-nothing : (lo hi : ℕ) (t : List ℕ) → Adds (byteFor (plain (λ a b c. false))) lo hi t t
 adds-nothing lo hi t = record { long = refl; within = λ a b c p q u v. sym (or-zero-r (getD t (index a b c) 0)); before = λ j u. refl; behind = λ j u. refl }
 
 union-assoc : (u v w : ℕ) → union (union u v) w ≡ union u (union v w)
@@ -64,14 +64,14 @@ union-assoc u v w = ext-has _ _ (λ i.
     ∙ or-assoc (has u i) (has v i) (has w i)
     ∙ sym (has-union u (union v w) i ∙ ap (λ (x : Bool). has u i || x) (has-union v w i)))
 
-pub adds-both : (E F : Triplets) (lo hi : ℕ) (t t₁ t₂ : List ℕ) → Adds (byteFor E) lo hi t t₁ → Adds (byteFor F) lo hi t₁ t₂ → Adds (byteFor (both E F)) lo hi t t₂
-adds-both E F lo hi t t₁ t₂ p q = record {
+pub adds-both : (S Z : Said) (lo hi : ℕ) (t t₁ t₂ : List ℕ) → Adds (byteFor S) lo hi t t₁ → Adds (byteFor Z) lo hi t₁ t₂ → Adds (byteFor (bothSaid S Z)) lo hi t t₂
+adds-both S Z lo hi t t₁ t₂ p q = record {
   long = q .long ∙ p .long;
   within = λ a b c x y l h.
       q .within a b c x y l h
-      ∙ ap (λ (z : ℕ). union z (byteFor F a b c)) (p .within a b c x y l h)
-      ∙ union-assoc (getD t (index a b c) 0) (byteFor E a b c) (byteFor F a b c)
-      ∙ ap (union (getD t (index a b c) 0)) (sym (byte-both E F a b c));
+      ∙ ap (λ (z : ℕ). union z (byteFor Z a b c)) (p .within a b c x y l h)
+      ∙ union-assoc (getD t (index a b c) 0) (byteFor S a b c) (byteFor Z a b c)
+      ∙ ap (union (getD t (index a b c) 0)) (sym (byte-both S Z a b c));
   before = λ i l. q .before i l ∙ p .before i l;
   behind = λ i h. q .behind i h ∙ p .behind i h;
 }
@@ -79,7 +79,7 @@ adds-both E F lo hi t t₁ t₂ p q = record {
 -- ---- one record
 
 -- the byte of one triplet: its bit in the byte of its triple, and nothing in any other
-only-byte : (a b c l m h : ℕ) → So (different a b c) → l < m → m < h → byteFor (only a b c) l m h ≡ cond (eqb (index l m h) (placeOf a b c)) (single (bitOf a b c)) 0
+only-byte : (a b c l m h : ℕ) → So (different a b c) → l < m → m < h → byteFor (plain (only a b c)) l m h ≡ cond (eqb (index l m h) (placeOf a b c)) (single (bitOf a b c)) 0
 only-byte a b c l m h d p q =
     let k = bitOf a b c in
     let e = eqb (index l m h) (placeOf a b c) in
@@ -91,14 +91,14 @@ only-byte a b c l m h d p q =
     at : (x y z k : ℕ) → So (different x y z) → placeOf x y z ≡ index l m h → bitOf x y z ≡ k → only a b c x y z ≡ (eqb (index l m h) (placeOf a b c) && eqb (bitOf a b c) k)
     at x y z k n e f = sym (same-only a b c x y z d) ∙ rw (n, e, f) refl
 
-    go : (e : Bool) (k : ℕ) → k < 3 → byteOf (e && eqb k 0) (e && eqb k 1) (e && eqb k 2) ≡ cond e (single k) 0
+    go : (e : Bool) (k : ℕ) → k < 3 → byteOf (e && eqb k 0) (e && eqb k 1) (e && eqb k 2) false ≡ cond e (single k) 0
     go false k l = refl
     go true zero l = refl
     go true (suc zero) l = refl
     go true (suc (suc zero)) l = refl
     go true (suc (suc (suc k))) l = absurd (omega arith)
 
-pub adds-record : (t : List ℕ) (a b c hi : ℕ) → So (different a b c) → placeOf a b c < length t → placeOf a b c < hi → Adds (byteFor (only a b c)) 0 hi t (enter t a b c)
+pub adds-record : (t : List ℕ) (a b c hi : ℕ) → So (different a b c) → placeOf a b c < length t → placeOf a b c < hi → Adds (byteFor (plain (only a b c))) 0 hi t (enter t a b c)
 unfolding enter
 adds-record t a b c hi d l h = record {
   long = enter-length t a b c;
@@ -116,14 +116,14 @@ adds-record t a b c hi d l h = record {
 
 -- ---- a whole table
 
-pub adds-table : (n : ℕ) (E : Triplets) (t : List ℕ) → Adds (byteFor E) 0 (C n 3) (replicate (C n 3) 0) t → t ≡ tableFor n E
-adds-table n E t p = ext-getD 0 t (tableFor n E) (p .long ∙ length-replicate {A = ℕ} (C n 3) 0 ∙ sym (table-length n E)) (λ i h.
+pub adds-table : (n : ℕ) (S : Said) (t : List ℕ) → Adds (byteFor S) 0 (C n 3) (replicate (C n 3) 0) t → t ≡ tableFor n S
+adds-table n S t p = ext-getD 0 t (tableFor n S) (p .long ∙ length-replicate {A = ℕ} (C n 3) 0 ∙ sym (table-length n S)) (λ i h.
     let k : i < C n 3 = omega (arith, p .long, length-replicate {A = ℕ} (C n 3) 0) in
     let r = triple-back n i k in
     let a = lowAt n i in
     let b = midAt n i in
     let c = highAt n i in
-    subst (λ (j : ℕ). getD t j 0 ≡ byteFor E a b c) (r .3)
+    subst (λ (j : ℕ). getD t j 0 ≡ byteFor S a b c) (r .3)
     (p .within a b c (r .0) (r .1) (omega arith) (omega (arith, r .3))
-    ∙ ap (λ (z : ℕ). union z (byteFor E a b c)) (zero-at (C n 3) (index a b c)) ∙ or-zero-l (byteFor E a b c))
-    ∙ sym (table-at n E i k))
+    ∙ ap (λ (z : ℕ). union z (byteFor S a b c)) (zero-at (C n 3) (index a b c)) ∙ or-zero-l (byteFor S a b c))
+    ∙ sym (table-at n S i k))

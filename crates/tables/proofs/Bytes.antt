@@ -1,11 +1,11 @@
--- What the table says: its triplets are proper, entering adds one triplet and no other, and a place beyond the table says nothing. Assumes nothing.
-use mathlib.Core.Bool.{Bool, So, _&&_, _||_, and-or-distrib-left, false, false≢true, or-false}
+-- What the table says: its triplets are proper, entering adds one triplet and no other and no fan, and a place beyond the table says nothing. Assumes nothing.
+use mathlib.Core.Bool.{Bool, So, _&&_, _||_, and-false, and-or-distrib-left, false, false≢true, or-false}
 use mathlib.Core.List.{List, []}
 use mathlib.Core.Logic.{_≢_}
 use mathlib.Core.Path.{_∙_, _≡_, ap, ap₂, refl, subst, sym}
 use Prim.Native.Nat.{_<_, _≤_, ℕ}
 use native.Mathlib.Omega.{arith}
-use borrow.Author.Tests.{eqb-true, ltb-false, ltb-true, not-true}
+use borrow.Author.Tests.{eqb-true, ltb-false, ltb-true, ne-eqb, not-true}
 use lib.Dec.{eqb, ltb}
 use lib.ListN.{List·getD-eq-default, getD, length, length-set, replicate}
 use lib.Seq.{getD-set-other, getD-set-same}
@@ -16,8 +16,8 @@ use Rattle.sets.specs.Sets.{has, single}
 use Rattle.trees.proofs.Triplets.{different-e, different-i, different-swap}
 use Rattle.trees.specs.Triplets.{Proper, both, different, only}
 use Rattle.tables.proofs.Indices.{C-more}
-use Rattle.tables.proofs.Places.{bit-ab, bit-ac, bit-bc, bit-swap, place-ab, place-ac, place-bc, place-swap, same-only}
-use Rattle.tables.specs.Bytes.{Byte, Entered, bitOf, disagree, enter, entered, fits, placeOf}
+use Rattle.tables.proofs.Places.{bit-ab, bit-ac, bit-bc, bit-most, bit-swap, place-ab, place-ac, place-bc, place-swap, same-only}
+use Rattle.tables.specs.Bytes.{Byte, Entered, bitOf, disagree, enter, entered, fanBit, fanned, fits, marked, placeOf}
 use Rattle.tables.specs.Index.{C, high, index}
 
 -- ---- what is entered
@@ -81,17 +81,21 @@ entered-below t n f a b c h = upto-high a b c n (go (high a b c) refl)
 -- ---- the byte of a < b < c
 
 -- the bit at its place, for three different species
+marked-bit : (t : List ℕ) (x y z i k : ℕ) → So (different x y z) → placeOf x y z ≡ i → has (getD t i 0) k ≡ marked t k x y z
+marked-bit t x y z i k d p = sym (ap₂ (λ (b : Bool) (j : ℕ). b && has (getD t j 0) k) d p)
+
 pub entered-bit : (t : List ℕ) (x y z i k : ℕ) → So (different x y z) → placeOf x y z ≡ i → bitOf x y z ≡ k → has (getD t i 0) k ≡ entered t x y z
 unfolding entered
-entered-bit t x y z i k d p q =
-    sym (ap (λ (b : Bool). b && has (getD t (placeOf x y z) 0) (bitOf x y z)) d ∙ ap₂ (λ (j l : ℕ). has (getD t j 0) l) p q)
+entered-bit t x y z i k d p q = marked-bit t x y z i k d p ∙ ap (λ (l : ℕ). marked t l x y z) (sym q)
 
 pub byte-says : (t : List ℕ) (a b c v : ℕ) → a < b → b < c → v ≡ getD t (index a b c) 0 → Byte t a b c v
+unfolding fanned
 byte-says t a b c v p q e = record {
   is = e;
   ab = ap (λ (x : ℕ). has x 0) e ∙ entered-bit t a b c (index a b c) 0 (different-i a b c (omega arith) (omega arith) (omega arith)) (place-ab a b c p q) (bit-ab a b c p q);
   ac = ap (λ (x : ℕ). has x 1) e ∙ entered-bit t a c b (index a b c) 1 (different-i a c b (omega arith) (omega arith) (omega arith)) (place-ac a b c p q) (bit-ac a b c p q);
   bc = ap (λ (x : ℕ). has x 2) e ∙ entered-bit t b c a (index a b c) 2 (different-i b c a (omega arith) (omega arith) (omega arith)) (place-bc a b c p q) (bit-bc a b c p q);
+  fan = ap (λ (x : ℕ). has x fanBit) e ∙ marked-bit t a b c (index a b c) fanBit (different-i a b c (omega arith) (omega arith) (omega arith)) (place-ab a b c p q);
 }
 
 -- sources disagree exactly where two triplets on the triple are entered
@@ -133,10 +137,20 @@ module _ (t : List ℕ) (a b c : ℕ) where
         ∙ and-or-distrib-left (different x y z) _ _
         ∙ ap (λ (w : Bool). entered t x y z || w) (same-only a b c x y z d)
 
+    -- no fan is new: the bit of a triplet is never the fan's
+    fanned-enter : (x y z : ℕ) → fanned (enter t a b c) x y z ≡ fanned t x y z
+    unfolding fanned
+    fanned-enter x y z =
+        ap (λ (w : Bool). different x y z && w) (has-enter (placeOf x y z) fanBit
+        ∙ ap (λ (w : Bool). has (getD t (placeOf x y z) 0) fanBit || (eqb (placeOf x y z) (placeOf a b c) && w)) (ne-eqb (bitOf a b c) fanBit (λ e. omega (arith, e, bit-most a b c)))
+        ∙ ap (λ (w : Bool). has (getD t (placeOf x y z) 0) fanBit || w) (and-false (eqb (placeOf x y z) (placeOf a b c)))
+        ∙ or-false (has (getD t (placeOf x y z) 0) fanBit))
+
     pub enter-says : So (different a b c) → (t′ : List ℕ) → t′ ≡ enter t a b c → Entered t t′ a b c
     enter-says d t′ e = record {
       is = e;
       says = λ x y z. ap (λ (s : List ℕ). entered s x y z) e ∙ entered-enter d x y z;
+      fans = λ x y z. ap (λ (s : List ℕ). fanned s x y z) e ∙ fanned-enter x y z;
       stays = λ i n. ap (λ (s : List ℕ). getD s i 0) e ∙ enter-stays i n;
       long = ap length e ∙ enter-length;
     }

@@ -1,5 +1,6 @@
 -- The table of entered triplets. Document 01, "Species, sets, triples": "A triplet table has exactly C(n,3) bytes"; "In a byte, 1 stands for
--- ab|c, 2 for ac|b, 4 for bc|a, added together; 0 says nothing. More than one bit means that sources disagree."
+-- ab|c, 2 for ac|b, 4 for bc|a, added together; 0 says nothing. More than one bit means that sources disagree." Request T-05: "Listing adds 8 to a
+-- table byte where some tree holds all three as a fan."
 use mathlib.Core.Path.{_≡_}
 use mathlib.Core.Logic.{_≢_}
 use mathlib.Core.Bool.{Bool, cond, not, _&&_, _||_}
@@ -29,9 +30,13 @@ signAC = 2
 abbrev pub signBC : ℕ
 signBC = 4
 
+-- 8 stands for a fan of the three
+abbrev pub signFan : ℕ
+signFan = 8
+
 -- a byte that a table may hold: at most all of them "added together"
 abbrev pub top : ℕ
-top = 7
+top = 15
 
 abbrev pub Small : ℕ → Type 0
 Small v = v ≤ top
@@ -41,7 +46,7 @@ unfoldable pub over : List ℕ → ℕ
 over [] = 0
 over (v ∷ t) = cond (ltb top v) 0 (suc (over t))
 
--- refusal 8: "a table byte is over 7"
+-- refusal 8, "now for a byte over 15"
 abbrev pub wrongByte : List ℕ → Bool
 wrongByte t = ltb (over t) (length t)
 
@@ -53,9 +58,21 @@ placeOf a b c = index (low a b c) (mid a b c) (high a b c)
 unfoldable pub bitOf : ℕ → ℕ → ℕ → ℕ
 bitOf a b c = cond (ltb (max a b) c) 0 (cond (ltb (min a b) c) 1 2)
 
--- ab|c is entered; a place that the table does not have says nothing
+-- the bit that stands for a fan of the three
+abbrev pub fanBit : ℕ
+fanBit = 3
+
+-- What a table says is read here and nowhere else: the byte of three different species has the bit k. A place that the table does not have says nothing.
+abbrev pub marked : List ℕ → ℕ → ℕ → ℕ → ℕ → Bool
+marked t k a b c = different a b c && has (getD t (placeOf a b c) 0) k
+
+-- ab|c is entered
 unfoldable pub entered : List ℕ → Triplets
-entered t a b c = different a b c && has (getD t (placeOf a b c) 0) (bitOf a b c)
+entered t a b c = marked t (bitOf a b c) a b c
+
+-- some tree has a, b and c as a fan
+unfoldable pub fanned : List ℕ → Triplets
+fanned t a b c = marked t fanBit a b c
 
 -- the table with the bits of v added to the byte at place i
 abbrev pub added : List ℕ → ℕ → ℕ → List ℕ
@@ -75,10 +92,12 @@ pub record Byte (t : List ℕ) (a b c v : ℕ) : Type 0 where
   pub ab : has v 0 ≡ entered t a b c
   pub ac : has v 1 ≡ entered t a c b
   pub bc : has v 2 ≡ entered t b c a
+  pub fan : has v fanBit ≡ fanned t a b c
 
--- What the table t′ tells once ab|c was entered into t: that triplet and no other is new.
+-- What the table t′ tells once ab|c was entered into t: that triplet and no other is new, and no fan. "Entering never sets 8."
 pub record Entered (t t′ : List ℕ) (a b c : ℕ) : Type 0 where
   pub is : t′ ≡ enter t a b c
   pub says : (x y z : ℕ) → entered t′ x y z ≡ both (entered t) (only a b c) x y z
+  pub fans : (x y z : ℕ) → fanned t′ x y z ≡ fanned t x y z
   pub stays : (i : ℕ) → i ≢ placeOf a b c → getD t′ i 0 ≡ getD t i 0
   pub long : length t′ ≡ length t

@@ -9,15 +9,17 @@ ghost use Rattle.tables.specs.Index.{C, index, low, mid, high, largest};
 ghost use Rattle.tables.specs.Bytes.{fits, over, placeOf, bitOf, entered, added, Byte, Entered};
 ghost use Rattle.tables.specs.Named.{named};
 
-// What stands for ab|c, ac|b and bc|a in the byte of the triple a < b < c.
+// What stands for ab|c, ac|b, bc|a and a fan in the byte of the triple a < b < c.
 pub const AB: u8 = 1;
 
 pub const AC: u8 = 2;
 
 pub const BC: u8 = 4;
 
+pub const FAN: u8 = 8;
+
 // The highest byte that a table may hold.
-const TOP: u8 = 7;
+const TOP: u8 = 15;
 
 // Three species in increasing order.
 pub struct Triple {

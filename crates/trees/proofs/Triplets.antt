@@ -1,4 +1,4 @@
--- Triplets put together, one triplet alone, and three different species. Assumes nothing.
+-- Triplets put together, one triplet alone, three different species, and a fan. Assumes nothing.
 use mathlib.Core.Bool.{So, _&&_, _||_}
 use mathlib.Core.Logic.{_≢_, _⊎_, inl, inr, ⊎-elim}
 use mathlib.Core.Path.{_∙_, _≡_, refl, sym}
@@ -6,7 +6,8 @@ use Prim.Native.Nat.{ℕ}
 use borrow.Author.Tests.{eq-eqb, eqb-true}
 use lib.Dec.{eqb}
 use Rattle.sets.proofs.Bools.{and-i, and-l, and-r, not-e, not-i, or-case, or-l, or-r}
-use Rattle.trees.specs.Triplets.{Proper, Triplets, both, different, onTriple, only}
+use Rattle.trees.specs.Trees.{Tree, under}
+use Rattle.trees.specs.Triplets.{Proper, Triplets, both, different, fan, onTriple, only}
 
 pub both-proper : (E E′ : Triplets) → Proper E → Proper E′ → Proper (both E E′)
 both-proper E E′ p q = record {
@@ -71,3 +72,12 @@ module _ (P : Triplets) (swap : (a b c : ℕ) → So (P a b c) → So (P b a c))
   on-turn a b c h = or-case (P a b c) _ h
       (λ k. or-r (P a c b) _ (or-l (P a b c) _ k))
       (λ k. or-case (P a c b) (P b c a) k (or-l (P a c b) _) (λ j. or-r (P a c b) _ (or-r (P a b c) _ (swap b c a j))))
+
+-- ---- a fan
+
+-- its three species are in the tree
+pub fan-in : (t : Tree) (a b c : ℕ) → So (fan t a b c) → So (under t a) × So (under t b) × So (under t c)
+fan-in t a b c h =
+    let i = and-l (under t a && (under t b && under t c)) _ h in
+    let k = and-r (under t a) _ i in
+    (and-l (under t a) _ i, and-l (under t b) _ k, and-r (under t b) _ k)

@@ -15,13 +15,13 @@ use Rattle.tables.proofs.Adding.{adds-table}
 use Rattle.tables.specs.Adds.{Adds}
 use Rattle.tables.specs.Filled.{byteFor}
 use Rattle.tables.specs.Index.{C}
-use Rattle.listing.proofs.Collected.{inside, part-good, held-next, held-none}
-use Rattle.listing.specs.Lists.{heldUpTo}
+use Rattle.listing.proofs.Collected.{inside, part-good, said-next, said-none}
+use Rattle.listing.specs.Lists.{saidUpTo}
 use Rattle.listing.proofs.fill.Statement.{statement}
 use Rattle.listing.proofs.fill.Tie as tie
 
 abbrev Inv-loop : tie.InvT-loop
-Inv-loop b n m t₀ groups₀ meets₀ k₀ t groups meets k = (k ≤ m) × (length t ≡ C n 3) × Adds (byteFor (heldUpTo b k)) 0 (C n 3) t₀ t × (length groups ≡ mostNodes) × (length meets ≡ cells)
+Inv-loop b n m t₀ groups₀ meets₀ k₀ t groups meets k = (k ≤ m) × (length t ≡ C n 3) × Adds (byteFor (saidUpTo b k)) 0 (C n 3) t₀ t × (length groups ≡ mostNodes) × (length meets ≡ cells)
 
 abbrev μ-loop : tie.MeasureT-loop
 μ-loop b n m t₀ groups₀ meets₀ k₀ t groups meets k = m - k
@@ -36,7 +36,7 @@ loop-holds c =
     let l = length (s .args .t .now) in (
       omega arith,
       ap length e ∙ length-replicate l 0 ∙ s .pre .3,
-      held-none (s .args .b .now) _ (C (s .args .n) 3),
+      said-none (s .args .b .now) _ (C (s .args .n) 3),
       refl,
       refl,
     )
@@ -96,7 +96,7 @@ loop-again c =
     let s = p .before .before .before .before .before .before .before .before .before in (
       omega (arith, p .before .loop-test .taken),
       t .tree .ensures .1 .0,
-      rw (add-one (l .k)) (held-next (b p) (r p) (k p) (one-of p) (s .args .n) _ _ (l .t) _ (is-body p) (l .inv .2) (t .tree .ensures .1 .1)),
+      rw (add-one (l .k)) (said-next (b p) (r p) (k p) (one-of p) (s .args .n) _ _ (l .t) _ (is-body p) (l .inv .2) (t .tree .ensures .1 .1)),
       t .tree .ensures .0 .0,
       t .tree .ensures .0 .1,
     )
@@ -112,10 +112,10 @@ returns c =
     let e : l .k ≡ trees b = omega (arith, l .inv .0, c .loop-test .left, s .pre .2) in
     let z = c .before .before .before .before .clear .ensures in
     let d : C (s .args .n) 3 ≡ C (species b) 3 = ap (λ (x : ℕ). C x 3) (s .pre .1) in
-    adds-table (species b) (heldUpTo b (trees b)) (l .t)
-    (subst (λ (x : ℕ). Adds (byteFor (heldUpTo b (trees b))) 0 x (replicate x 0) (l .t)) d
-    (subst (λ (k : ℕ). Adds (byteFor (heldUpTo b k)) 0 (C (s .args .n) 3) (replicate (C (s .args .n) 3) 0) (l .t)) e
-    (subst (λ (t : List ℕ). Adds (byteFor (heldUpTo b (l .k))) 0 (C (s .args .n) 3) t (l .t)) (z ∙ ap (λ (x : ℕ). replicate x 0) (s .pre .3)) (l .inv .2))))
+    adds-table (species b) (saidUpTo b (trees b)) (l .t)
+    (subst (λ (x : ℕ). Adds (byteFor (saidUpTo b (trees b))) 0 x (replicate x 0) (l .t)) d
+    (subst (λ (k : ℕ). Adds (byteFor (saidUpTo b k)) 0 (C (s .args .n) 3) (replicate (C (s .args .n) 3) 0) (l .t)) e
+    (subst (λ (t : List ℕ). Adds (byteFor (saidUpTo b (l .k))) 0 (C (s .args .n) 3) t (l .t)) (z ∙ ap (λ (x : ℕ). replicate x 0) (s .pre .3)) (l .inv .2))))
 
 pub fill-spec : {M : Type 1} → statement M
 fill-spec =

@@ -24,6 +24,9 @@ enum-told-3 c = search needs
 enum-told-4 : tie.Need-enum-told-4
 enum-told-4 c = search needs
 
+enum-told-5 : tie.Need-enum-told-5
+enum-told-5 c = search needs
+
 -- what was said settles it
 told : (c : tie.After-ask) → let a = c .before .args in (T : Tree) → Meets T (a .meets .now) → a .whole ≡ setOf T
     → isTriplet (c .ask .result) ≡ resolves T (a .a) (a .b) (a .c)
@@ -45,6 +48,10 @@ returns-4 : tie.Need-returns-4
 unfolding isTriplet
 returns-4 c T m w = sym (ap isTriplet (c .enum-told4 .given .1)) ∙ told (c .before .before) T m w
 
+returns-5 : tie.Need-returns-5
+unfolding isTriplet
+returns-5 c T m w = sym (ap isTriplet (c .enum-told5 .given .1)) ∙ told (c .before .before) T m w
+
 pub resolved-spec : {M : Type 1} → statement M
 resolved-spec =
     tie.close
@@ -54,7 +61,9 @@ resolved-spec =
     enum-told-2
     enum-told-3
     enum-told-4
+    enum-told-5
     returns
     returns-2
     returns-3
-    returns-4)
+    returns-4
+    returns-5)

@@ -10,7 +10,7 @@ use Rattle.tables.proofs.Indices.{C-more}
 use Rattle.tables.proofs.Values.{C-64-3}
 use Rattle.tables.specs.Index.{C}
 use Rattle.collections.specs.Layout.{species, trees}
-use Rattle.listing.specs.Lists.{listOf, heldUpTo}
+use Rattle.listing.specs.Lists.{listOf, saidUpTo}
 use Rattle.shelf_text.specs.Shelf.{tableText}
 use Rattle.shelf_text.proofs.Told.{list-whole}
 use Rattle.writing.proofs.Writing.{writes-as}
@@ -43,7 +43,7 @@ whole-length c =
     let m = c .before .before in
     let s = begun m in
     let b = s .args .b .now in
-    ap length (whole c) ∙ table-length (species b) (heldUpTo b (trees b)) ∙ ap (λ (n : ℕ). C n 3) (sym (s .pre .1 .1)) ∙ sym (m .table-length .ensures)
+    ap length (whole c) ∙ table-length (species b) (saidUpTo b (trees b)) ∙ ap (λ (n : ℕ). C n 3) (sym (s .pre .1 .1)) ∙ sym (m .table-length .ensures)
 
 table-length-requires : tie.Need-table-length-requires
 table-length-requires c κs =

@@ -1,0 +1,111 @@
+-- Two tables that differ in the bits 8 alone say the same triplets: the same is built of them, and the check answers the same, but for the byte that 11
+-- returns. Assumes nothing.
+use mathlib.Core.Bool.{Bool, _&&_, false, true}
+use mathlib.Core.List.{List, [], _∷_, _++_}
+use mathlib.Core.Logic.{inl, inr}
+use mathlib.Core.Path.{_∙_, _≡_, ap, ap₂, fun-ext, refl, subst, sym}
+use Prim.Native.Nat.{ℕ}
+use native.Mathlib.Omega.{arith}
+use lib.Dec.{ltb}
+use lib.ListN.{getD, length}
+use Rattle.sets.specs.Sets.{has, size}
+use Rattle.trees.specs.Build.{Outcome, build}
+use Rattle.trees.specs.Check.{differs, unsure}
+use Rattle.trees.specs.Triplets.{Triplets, different}
+use Rattle.tables.proofs.Limits.{small-exactly}
+use Rattle.tables.proofs.Places.{bit-most}
+use Rattle.tables.specs.Bytes.{Small, bitOf, entered, placeOf}
+use Rattle.tables.specs.Find.{firstTriple}
+use Rattle.tables.specs.Index.{C}
+use Rattle.bodies.specs.Draws.{treeOf}
+use Rattle.bodies.specs.Nodes.{roomFor}
+use Rattle.outside.specs.Reaches.{Enclosed}
+use Rattle.answers.proofs.Answered.{first-append}
+use Rattle.answers.specs.Answers.{Told}
+use Rattle.answers.specs.Looks.{after, andThen, answered, firstRefusal, lookBytes, lookCount, lookLength, lookRoom, lookRules, lookTable, refuseIf}
+use Rattle.answers.specs.declared.Look.{Look}
+use Rattle.answers.specs.declared.Look.the-variants.{Pass, Refuse}
+use Rattle.answers.specs.declared.Refusal.the-variants.{Contradicted, Unforced}
+use Rattle.building.proofs.Chosen.{outside-pass}
+use Rattle.building.specs.Builds.{buildDone, buildRoom, buildTold, lookOutcome, outcome}
+use Rattle.building.specs.GoodSet.{lookOutside, lookSet}
+use Rattle.building.specs.declared.Answer as Building
+use Rattle.checking.specs.Checks.{checkTold, firstDiffers, firstUnsure, lookPI, triplesLooks}
+use Rattle.checking.specs.declared.Answer.{Answer}
+use Rattle.checking.specs.declared.Answer.the-variants.{Passes, Refused}
+use Rattle.promises.specs.Fans.{FansApart, FansAside, SameVerdict}
+use Rattle.promises.specs.Operations.{Given, builds, checks, gives, koodhaxil}
+
+bytes-pass : (t : List ℕ) → ((i : ℕ) → Small (getD t i 0)) → lookBytes t ≡ Pass
+bytes-pass t h = rw (small-exactly t .1 h) refl
+
+module _ (t t′ : List ℕ) (f : FansApart t t′) where
+  -- the bit of a triplet is never the fan's
+  same-entered : entered t ≡ entered t′
+  unfolding entered
+  same-entered = fun-ext (λ a. fun-ext (λ b. fun-ext (λ c.
+      ap (λ (x : Bool). different a b c && x) (f .bits (placeOf a b c) (bitOf a b c) (λ e. omega (arith, e, bit-most a b c))))))
+
+  same-bytes : lookBytes t ≡ lookBytes t′
+  same-bytes = bytes-pass t (f .small) ∙ sym (bytes-pass t′ (f .small′))
+
+  module _ (n s : ℕ) where
+    same-outcome : outcome n s t ≡ outcome n s t′
+    unfolding outcome
+    same-outcome = ap (λ (E : Triplets). build E n (has s)) same-entered
+
+    module _ (o : List ℕ) where
+      abbrev looks : ℕ → Look → Look → Outcome → List Look
+      looks l k w R = (lookCount n ∷ lookTable n l ∷ k ∷ lookSet n s ∷ w ∷ lookRoom (roomFor (size s)) (length o) ∷ []) ++ (lookOutcome R ∷ [])
+
+      -- what is given where the table has l bytes, the looks at its bytes and outside the set come to k and w, and the outcome is R
+      abbrev given : ℕ → Look → Look → Outcome → Given
+      given l k w R = gives (buildTold (answered Building.the-variants.Done Building.the-variants.Refused (firstRefusal (looks l k w R)) (buildDone R))) (after (firstRefusal (looks l k w R)) (buildRoom R o) o)
+
+      same-built : Enclosed n s t → Enclosed n s t′ → builds n s t o ≡ builds n s t′ o
+      same-built e e′ =
+          ap₂ (λ (l : ℕ) (k : Look). given l k (lookOutside n s t) (outcome n s t)) (f .long) same-bytes
+          ∙ ap₂ (given (length t′) (lookBytes t′)) (outside-pass n s t .1 e ∙ sym (outside-pass n s t′ .1 e′)) same-outcome
+
+  module _ (n : ℕ) (b : List ℕ) where
+    abbrev front : List ℕ → List Look
+    front u = lookCount n ∷ lookTable n (length u) ∷ lookBytes u ∷ lookLength 0 (length b) ∷ lookRules 0 n b ∷ []
+
+    -- what is told where the looks before come to A, an entered triplet differs at the triple j with the byte v, or nowhere, and P is the look at what is forced
+    abbrev toldOf : Look → Bool → ℕ → ℕ → Look → Told
+    toldOf A c j v P = checkTold (answered (λ (a : Answer). a) Refused (andThen A (andThen (refuseIf c (Contradicted (record { index = j; byte = v }))) (andThen P Pass))) Passes)
+
+    told-is : (u : List ℕ) → checks n u b ≡ toldOf (firstRefusal (front u)) (ltb (firstDiffers n u (treeOf b)) (C n 3)) (firstDiffers n u (treeOf b)) (getD u (firstDiffers n u (treeOf b)) 0) (lookPI n u (treeOf b))
+    told-is u = ap (λ (k : Look). checkTold (answered (λ (a : Answer). a) Refused k Passes)) (first-append (front u) (triplesLooks n u (treeOf b)))
+
+    verdict : (A : Look) (c : Bool) (j : ℕ) (P : Look) → SameVerdict t t′ (toldOf A c j (getD t j 0) P) (toldOf A c j (getD t′ j 0) P)
+    verdict Pass true j P = inr (j, refl, refl)
+    verdict Pass false j P = inl refl
+    verdict (Refuse x) c j P = inl refl
+
+    same-front : firstRefusal (front t) ≡ firstRefusal (front t′)
+    same-front = ap₂ (λ (l : ℕ) (k : Look). firstRefusal (lookCount n ∷ lookTable n l ∷ k ∷ lookLength 0 (length b) ∷ lookRules 0 n b ∷ [])) (f .long) same-bytes
+
+    same-differs : firstDiffers n t (treeOf b) ≡ firstDiffers n t′ (treeOf b)
+    unfolding firstDiffers
+    same-differs = ap (λ (E : Triplets). firstTriple n (differs E (treeOf b))) same-entered
+
+    same-unsure : firstUnsure n t (treeOf b) ≡ firstUnsure n t′ (treeOf b)
+    unfolding firstUnsure
+    same-unsure = ap (λ (E : Triplets). firstTriple n (unsure E n (treeOf b))) same-entered
+
+    same-checked : SameVerdict t t′ (checks n t b) (checks n t′ b)
+    same-checked =
+        let T = treeOf b in
+        let d = firstDiffers n t T in
+        subst (λ (x : Told). SameVerdict t t′ x (checks n t′ b)) (sym (told-is t)) (subst (SameVerdict t t′ _)
+        (ap₂ (λ (A : Look) (j : ℕ). toldOf A (ltb j (C n 3)) j (getD t′ j 0) (lookPI n t T)) same-front same-differs
+        ∙ ap (λ (j : ℕ). toldOf (firstRefusal (front t′)) (ltb (firstDiffers n t′ T) (C n 3)) (firstDiffers n t′ T) (getD t′ (firstDiffers n t′ T) 0) (refuseIf (ltb j (C n 3)) (Unforced j))) same-unsure
+        ∙ sym (told-is t′))
+        (verdict (firstRefusal (front t)) (ltb d (C n 3)) d (lookPI n t T)))
+
+pub fans-aside : FansAside koodhaxil
+fans-aside = record {
+  building = λ n s t t′ o f e e′. same-built t t′ f n s o e e′;
+  checking = λ n t t′ b f. same-checked t t′ f n b;
+}
