@@ -150,5 +150,12 @@ int main(void)
         if (values[0] >> species & 1) printf(" %zu", species);
     }
     printf("\n");
+
+    /* The veto build gives a tree even then: on three species, 01|2 beside 02|1 leave a fan. */
+    number = koodhaxil_veto(3, KOODHAXIL_ALL(3), (const uint8_t[]){ 1 | 2 }, KOODHAXIL_TABLE(3), tree, sizeof tree, values, KOODHAXIL_VALUES);
+    if (number != KOODHAXIL_DONE) return unexpected("the veto build", number);
+    printf("the veto build of 01|2 and 02|1: ");
+    print_tree(tree, values[0], 0);
+    printf(", %zu nodes\n", values[0]);
     return 0;
 }

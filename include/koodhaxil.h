@@ -19,7 +19,7 @@
  *
  * A table has C(n,3) bytes, one for each triple a < b < c, at the place KOODHAXIL_INDEX(a, b, c). In it 1 stands for ab|c, 2 for ac|b and 4 for
  * bc|a, and 8 for a fan, added together; 0 says nothing. Listing sets 8 where some tree has all three species and leaves them as a fan; entering never
- * does. Building and the check read 1, 2 and 4 alone.
+ * does. Both builds and the check read 1, 2 and 4 alone.
  *
  * A set of species is a uint64_t: bit i stands for species i. A species occurs in a collection where some tree has it, in a triplet or not; in records
  * where some record has it.
@@ -47,7 +47,7 @@
  * - What is lent for writing (a pointer that is not const) overlaps nothing else that is handed to the same call. What is only read may overlap.
  * - No other thread writes what is lent, or reads what is lent for writing, before the call returns. Calls that share no such memory may run at the
  *   same time.
- * - There is stack: on x86-64 some 98 KiB for checking, 34 for listing, 13 for building, and below 11 for the others.
+ * - There is stack: on x86-64 some 98 KiB for checking, 34 for listing, 13 for either build, and below 11 for the others.
  *
  *
  * WHAT A FUNCTION ANSWERS
@@ -57,7 +57,7 @@
  * answer, and 0 places are allowed. Where several refusals apply, the answer is the first one in the order that stands at the function.
  * koodhaxil_triple is no operation but a question, answered 1 for yes and 0 for no.
  *
- * A refusal changes no byte of a table or a room. On 0, listing and entering fill the whole table, whatever it held; house order, building
+ * A refusal changes no byte of a table or a room. On 0, listing and entering fill the whole table, whatever it held; house order, both builds
  * and reading a text write a body to the front of the room, and writing a text that text, and change nothing behind it.
  */
 #ifndef KOODHAXIL_H
@@ -74,7 +74,7 @@ extern "C" {
 enum koodhaxil_number {
     KOODHAXIL_DONE = 0,          /* done                                               read, list: n, tree count, set that occurs; */
                                  /*                                                    enter: n, set that occurs; */
-                                 /*                                                    order, build, parse: node count; check: nothing; */
+                                 /*                                                    order, build, veto, parse: node count; check: nothing; */
                                  /*                                                    render: length of the text */
     KOODHAXIL_BAD_VERSION = 1,   /* the version byte is not 1                          nothing */
     KOODHAXIL_BAD_COUNTS = 2,    /* n is 0 or over 64, or there are over 16 trees      nothing */
@@ -184,6 +184,15 @@ size_t koodhaxil_order(size_t n, const uint8_t *body, size_t body_length, uint8_
  */
 size_t koodhaxil_build(size_t n, uint64_t set, const uint8_t *table, size_t table_length, uint8_t *room, size_t room_length, size_t *values,
                        size_t values_length);
+
+/*
+ * The veto build: as building, but where a set's links join it all, every species of that set becomes a leaf under it, and building goes on with the
+ * sets beside it. So there is always a tree of exactly the species of the set, and 10 is never the answer. No entered triplet contradicts it: the check
+ * against the same table answers 0 or 12. Where building answers 0, this answers the same and writes the same tree.
+ * Refusals: 2, 7, 8, 15, 16, 9.
+ */
+size_t koodhaxil_veto(size_t n, uint64_t set, const uint8_t *table, size_t table_length, uint8_t *room, size_t room_length, size_t *values,
+                      size_t values_length);
 
 /*
  * Checks a tree against a table: 0 exactly when no entered triplet contradicts it and the entered ones force each of its own. 11 and 12 name the

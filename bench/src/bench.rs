@@ -1,12 +1,12 @@
-// Times the library's operations against its twin in one process, and listing 16 trees against listing one, as one table in Markdown. Exit 1 where
-// a limit is not met or an answer differs.
+// Times the library's operations against its twin in one process, listing 16 trees against listing one, and building with a veto against building
+// without, as one table in Markdown. Exit 1 where a limit is not met or an answer differs.
 
 mod boundary;
 mod clock;
 mod shapes;
 mod twin;
 
-use shapes::{body, candidates, collection, shuffle, shuffled, text, triples, Candidate, Dice, Shape, SEED, SHAPES};
+use shapes::{body, candidates, collection, quarrels, shuffle, shuffled, text, triples, Candidate, Dice, Quarrel, Shape, SEED, SHAPES};
 use std::hint::black_box;
 use std::time::Duration;
 
@@ -18,9 +18,13 @@ const ALL: u64 = u64::MAX;
 const TWIN_LIMIT: f64 = 1.3;
 const ORDER_LIMIT: f64 = 1.5;
 const TREES_LIMIT: f64 = 17.0;
+const VETO_LIMIT: f64 = 1.05;
 const CHECK_GUIDES: [f64; 4] = [10.0, 20.0, 10.0, 50.0];
 const ROUNDS: usize = 61;
 const SAMPLE: Duration = Duration::from_micros(1_000);
+
+// Both builds: from n, a set and a table to a body.
+type Builder = fn(usize, u64, &[u8], &mut [u8], &mut [usize]) -> usize;
 
 // The operations of one side, the library or the twin. Putting in house order, building over a set, reading a text and writing one go from n and a
 // body, a table or a text to a body or a text.
@@ -29,7 +33,8 @@ struct Side {
     list: fn(&[u8], &mut [u8], &mut [usize]) -> usize,
     enter: fn(usize, &[[u8; 3]], &mut [u8], &mut [usize]) -> usize,
     order: fn(usize, &[u8], &mut [u8], &mut [usize]) -> usize,
-    build: fn(usize, u64, &[u8], &mut [u8], &mut [usize]) -> usize,
+    build: Builder,
+    veto: Builder,
     check: fn(usize, &[u8], &[u8], &mut [usize]) -> usize,
     parse: fn(usize, &[u8], &mut [u8], &mut [usize]) -> usize,
     render: fn(usize, &[u8], &mut [u8], &mut [usize]) -> usize,
@@ -41,6 +46,7 @@ const LIBRARY: Side = Side {
     enter: boundary::enter,
     order: boundary::order,
     build: boundary::build,
+    veto: boundary::veto,
     check: boundary::check,
     parse: boundary::parse,
     render: boundary::render,
@@ -52,6 +58,7 @@ const TWIN: Side = Side {
     enter: twin::enter,
     order: twin::order,
     build: twin::build,
+    veto: twin::veto,
     check: twin::check,
     parse: twin::parse,
     render: twin::render,
@@ -114,13 +121,14 @@ fn told(lent: usize, call: impl FnOnce(&mut [u8], &mut [usize]) -> usize) -> Tol
 }
 
 // What one side tells of a run. Every table that is filled has to be the run's own, without the fans where it is entered; every species occurs; and the
-// tree built from the table is the tree in house order; so is the body read from the text, once it is put in house order, and the body read from the text that is written.
+// tree built from the table, with a veto too, is the tree in house order; so is the body read from the text, once it is put in house order, and the body read from the text that is written.
 fn answers(side: &Side, run: &Run) -> Option<Vec<Told>> {
     let reads = [&run.one, &run.sixteen].map(|bytes| told(0, |_, values| (side.read)(bytes, values)));
     let lists = [&run.one, &run.sixteen].map(|bytes| told(TABLE, |table, values| (side.list)(bytes, table, values)));
     let entered = told(TABLE, |table, values| (side.enter)(N, &run.records, table, values));
     let ordered = told(BODY, |room, values| (side.order)(N, &run.tree, room, values));
     let built = told(BODY, |room, values| (side.build)(N, ALL, &run.table, room, values));
+    let vetoed = told(BODY, |room, values| (side.veto)(N, ALL, &run.table, room, values));
     let parsed = told(BODY, |room, values| (side.parse)(N, &run.text, room, values));
     let body = parsed.2.get(..2 * parsed.1[0]).unwrap_or_default();
     let housed = told(BODY, |room, values| (side.order)(N, body, room, values));
@@ -130,7 +138,7 @@ fn answers(side: &Side, run: &Run) -> Option<Vec<Told>> {
     let triplets: Vec<u8> = run.table.iter().map(|byte| byte & 7).collect();
     let filled = lists.iter().all(|(_, _, table)| *table == run.table) && entered.2 == triplets;
     let occur = reads.iter().chain(&lists).map(|(_, values, _)| values[2]).chain([entered.1[1]]).all(|set| set as u64 == ALL);
-    let same = ordered == built && ordered == housed && ordered == again;
+    let same = [&built, &vetoed, &housed, &again].into_iter().all(|body| *body == ordered);
     let all: Vec<Told> = reads.into_iter().chain(lists).chain([entered, ordered, built, parsed, rendered]).collect();
     (filled && occur && same && all.iter().all(|(number, ..)| *number == 0)).then_some(all)
 }
@@ -139,16 +147,29 @@ fn checked(side: &Side, candidate: &Candidate) -> Told {
     told(0, |_, values| (side.check)(N, &candidate.table, &candidate.body, values))
 }
 
+// The veto build has to be the quarrel's own body, once this is put in house order.
+fn vetoed(side: &Side, quarrel: &Quarrel) -> Option<Told> {
+    let vetoed = told(BODY, |room, values| (side.veto)(N, ALL, &quarrel.table, room, values));
+    let ordered = told(BODY, |room, values| (side.order)(N, &quarrel.body, room, values));
+    (vetoed == ordered && vetoed.0 == 0).then_some(vetoed)
+}
+
 fn differ(what: &str) -> ! {
     println!("{what}: the library and the twin do not both give the right answer with the same values and bytes");
     std::process::exit(1);
 }
 
-fn compare(runs: &[Run], candidates: &[Candidate]) {
+fn compare(runs: &[Run], quarrels: &[Quarrel], candidates: &[Candidate]) {
     for run in runs {
         let wanted = answers(&TWIN, run);
         if wanted.is_none() || wanted != answers(&LIBRARY, run) {
             differ(run.name);
+        }
+    }
+    for quarrel in quarrels {
+        let wanted = vetoed(&TWIN, quarrel);
+        if wanted.is_none() || wanted != vetoed(&LIBRARY, quarrel) {
+            differ(quarrel.name);
         }
     }
     for candidate in candidates {
@@ -272,8 +293,7 @@ fn ordering<'a>(side: &Side, tree: &'a [u8]) -> impl FnMut() + 'a {
     filling(BODY, move |room, values| order(N, black_box(tree), room, values))
 }
 
-fn building<'a>(side: &Side, table: &'a [u8]) -> impl FnMut() + 'a {
-    let build = side.build;
+fn building<'a>(build: Builder, table: &'a [u8]) -> impl FnMut() + 'a {
     filling(BODY, move |room, values| build(N, black_box(ALL), black_box(table), room, values))
 }
 
@@ -297,8 +317,8 @@ fn checking<'a>(side: &Side, candidate: &'a Candidate) -> impl FnMut() + 'a {
 
 fn main() {
     let runs = SHAPES.map(run);
-    let candidates = candidates();
-    compare(&runs, &candidates);
+    let (quarrels, candidates) = (quarrels(), candidates());
+    compare(&runs, &quarrels, &candidates);
     println!("The answers of library and twin are the same. All have 64 species; 16 trees are the same tree 16 times.");
     println!("Medians of {ROUNDS} rounds, the two in turn, in processor time; the ratio is the median of the rounds' ratios.");
     println!();
@@ -322,8 +342,18 @@ fn main() {
         table.twins("order", run.name, ORDER_LIMIT, |side| ordering(side, &run.tree));
     }
     for run in &runs {
-        table.twins("build", &format!("{}, from its own table", run.name), TWIN_LIMIT, |side| building(side, &run.table));
+        table.twins("build", &format!("{}, from its own table", run.name), TWIN_LIMIT, |side| building(side.build, &run.table));
     }
+    for run in &runs {
+        table.twins("veto", &format!("{}, from its own table", run.name), TWIN_LIMIT, |side| building(side.veto, &run.table));
+    }
+    for quarrel in &quarrels {
+        table.twins("veto", quarrel.name, TWIN_LIMIT, |side| building(side.veto, &quarrel.table));
+    }
+    // The nested tree takes the most splitting.
+    let nested = &runs[0];
+    let [vetoed, _, ratio] = compared(building(LIBRARY.veto, &nested.table), building(LIBRARY.build, &nested.table));
+    table.row("veto", &format!("{}; the ratio is to the plain build", nested.name), vetoed, "", ratio, VETO_LIMIT, "");
     for (candidate, guide) in candidates.iter().zip(CHECK_GUIDES) {
         table.guided("check", candidate.name, TWIN_LIMIT, |side| checking(side, candidate), Some(guide));
     }

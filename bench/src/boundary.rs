@@ -29,6 +29,9 @@ extern "C" {
         values_len: usize,
     ) -> usize;
 
+    fn koodhaxil_veto(n: usize, set: u64, t: *const u8, t_len: usize, room: *mut u8, room_len: usize, values: *mut usize, values_len: usize)
+        -> usize;
+
     fn koodhaxil_check(n: usize, t: *const u8, t_len: usize, body: *const u8, body_len: usize, values: *mut usize, values_len: usize) -> usize;
 
     fn koodhaxil_parse(n: usize, text: *const u8, text_len: usize, room: *mut u8, room_len: usize, values: *mut usize, values_len: usize) -> usize;
@@ -66,6 +69,12 @@ pub fn order(n: usize, body: &[u8], room: &mut [u8], values: &mut [usize]) -> us
 pub fn build(n: usize, set: u64, t: &[u8], room: &mut [u8], values: &mut [usize]) -> usize {
     // SAFETY: as above.
     unsafe { koodhaxil_build(n, set, t.as_ptr(), t.len(), room.as_mut_ptr(), room.len(), values.as_mut_ptr(), values.len()) }
+}
+
+/// Builds with a veto: what is handed in and back is as for `build`.
+pub fn veto(n: usize, set: u64, t: &[u8], room: &mut [u8], values: &mut [usize]) -> usize {
+    // SAFETY: as above.
+    unsafe { koodhaxil_veto(n, set, t.as_ptr(), t.len(), room.as_mut_ptr(), room.len(), values.as_mut_ptr(), values.len()) }
 }
 
 /// Checks the candidate of a body against the table `t` over `n` species: the number and the values as for `read`.

@@ -88,6 +88,11 @@ pub fn build(n: usize, set: u64, table: &[u8], room: usize) -> (Told, Option<Vec
     written(room, 2, |room| operations::build(n as u64, set, table, room))
 }
 
+/// What building with a veto tells, and what is written, as for `build`.
+pub fn veto(n: usize, set: u64, table: &[u8], room: usize) -> (Told, Option<Vec<u8>>) {
+    written(room, 2, |room| operations::veto(n as u64, set, table, room))
+}
+
 /// What reading a Newick text over `n` species tells, with `room` bytes to write to, and what is written to their front.
 pub fn parse(n: usize, text: &[u8], room: usize) -> (Told, Option<Vec<u8>>) {
     written(room, 2, |room| operations::parse(n as u64, text, room))

@@ -104,6 +104,34 @@ pub fn text(body: &[u8]) -> Vec<u8> {
     format!("{};", subtree(body, 0)).into_bytes()
 }
 
+/// A table of 64 species that quarrels, and the body of the tree that the veto build gives.
+pub struct Quarrel {
+    pub name: &'static str,
+    pub body: Vec<u8>,
+    pub table: Vec<u8>,
+}
+
+/// A quarrel at the end of all splitting, and one in each of many parts.
+pub fn quarrels() -> [Quarrel; 2] {
+    let leaf = |s: u8| vec![255, s];
+    let star = |first: u8, count: u8| joined(&(first..first + count).map(leaf).collect::<Vec<_>>());
+    // ((..((0,1,2),3)..),63)
+    let nested = (3..64).fold(star(0, 3), |tree, s| joined(&[tree, leaf(s)]));
+    // Each two neighbours under a node, again and again.
+    let mut fours: Vec<Vec<u8>> = (0..64).step_by(4).map(|first| star(first, 4)).collect();
+    while fours.len() > 1 {
+        fours = fours.chunks(2).map(joined).collect();
+    }
+    [
+        Quarrel { name: "nested, its three lowest quarrel", body: nested, table: table(|_, _, c| if c == 2 { 7 } else { 1 }) },
+        Quarrel {
+            name: "balanced, each four quarrel",
+            body: fours.remove(0),
+            table: table(|a, b, c| if a / 4 == c / 4 { 7 } else { halved(a, b, c) }),
+        },
+    ]
+}
+
 /// A candidate of 64 species and a table to check it against, with the number and the values of the answer.
 pub struct Candidate {
     pub name: &'static str,
@@ -121,6 +149,15 @@ pub fn triples() -> impl Iterator<Item = [usize; 3]> {
 // The table of 64 species with these bytes for a < b < c.
 fn table(byte: impl Fn(usize, usize, usize) -> u8) -> Vec<u8> {
     triples().map(|[a, b, c]| byte(a, b, c)).collect()
+}
+
+// The byte of a balanced tree, by halves of consecutive species: the two whose first bits agree longer are close.
+fn halved(a: usize, b: usize, c: usize) -> u8 {
+    if a ^ b < b ^ c {
+        1
+    } else {
+        4
+    }
 }
 
 /// Candidates that take the check long, each by another way.
@@ -144,14 +181,7 @@ pub fn candidates() -> [Candidate; 4] {
             number: 0,
             values: &[],
         },
-        Candidate {
-            name: "balanced, its whole table",
-            body: balanced,
-            // Halves of consecutive species: the two whose first bits agree longer are close.
-            table: table(|a, b, c| if a ^ b < b ^ c { 1 } else { 4 }),
-            number: 0,
-            values: &[],
-        },
+        Candidate { name: "balanced, its whole table", body: balanced, table: table(halved), number: 0, values: &[] },
         // Entered: what the tree holds of 0 to 51, and 0i|i+1 for i from 52 to 62. The chain of sets for one of 0 to 25 and one of 26 to 51 loses 63
         // first, then 62, one at each step down to 52. The first triplet that is not forced is (0,1)|52.
         Candidate {

@@ -62,6 +62,7 @@ enum Call<'a> {
     Order(usize, &'a [u8], usize),
     // n, a set and a table.
     Build(usize, u64, &'a [u8], usize),
+    Veto(usize, u64, &'a [u8], usize),
     // A table and a body, which are only read.
     Check(usize, &'a [u8], &'a [u8]),
     Parse(usize, &'a [u8], usize),
@@ -90,7 +91,7 @@ impl Tally {
     fn call(&mut self, name: &str, call: Call, places: usize, told: &Told, filled: Option<&[u8]>) {
         let room = match call {
             Call::Read(_) | Call::Check(..) | Call::Triple(_) => 0,
-            Call::List(_, room) | Call::Enter(_, _, room) | Call::Build(_, _, _, room) => room,
+            Call::List(_, room) | Call::Enter(_, _, room) | Call::Build(_, _, _, room) | Call::Veto(_, _, _, room) => room,
             Call::Order(_, _, room) | Call::Parse(_, _, room) | Call::Render(_, _, room) => room,
         };
         let mut values: Vec<usize> = (0..places).map(|i| 9_000_000_000 + i).collect();
@@ -111,6 +112,7 @@ impl Tally {
             Call::Enter(n, records, _) => boundary::enter(n, records, &mut lent, &mut values),
             Call::Order(n, body, _) => boundary::order(n, body, &mut lent, &mut values),
             Call::Build(n, set, table, _) => boundary::build(n, set, table, &mut lent, &mut values),
+            Call::Veto(n, set, table, _) => boundary::veto(n, set, table, &mut lent, &mut values),
             Call::Check(n, table, _) => boundary::check(n, &lent[..table.len()], &lent[table.len()..], &mut values),
             Call::Parse(n, text, _) => boundary::parse(n, text, &mut lent, &mut values),
             Call::Render(n, body, _) => boundary::render(n, body, &mut lent, &mut values),
@@ -167,9 +169,17 @@ impl Tally {
         self.built_over(name, n, all(n), table, body);
     }
 
+    // The veto build gives the same tree.
     fn built_over(&mut self, name: &str, n: usize, set: u64, table: &[u8], body: &[u8]) {
         for more in [0, 1, 2, 300] {
             self.calls(name, Call::Build(n, set, table, body_room(set) + more), 0, &[body.len() / 2], Some(body));
+        }
+        self.vetoed(name, n, set, table, body);
+    }
+
+    fn vetoed(&mut self, name: &str, n: usize, set: u64, table: &[u8], body: &[u8]) {
+        for more in [0, 1, 2, 300] {
+            self.calls(name, Call::Veto(n, set, table, body_room(set) + more), 0, &[body.len() / 2], Some(body));
         }
     }
 
@@ -248,6 +258,7 @@ fn show(name: &str, call: Call, places: usize, wanted: &Outcome, got: &Outcome) 
         Call::Enter(n, records, room) => (format!("enter, n {n}, table of {room} bytes"), records.len(), start(records)),
         Call::Order(n, body, room) => (format!("order, n {n}, room of {room} bytes"), body.len(), start(body)),
         Call::Build(n, set, table, room) => (format!("build, n {n}, set {set}, room of {room} bytes"), table.len(), start(table)),
+        Call::Veto(n, set, table, room) => (format!("veto, n {n}, set {set}, room of {room} bytes"), table.len(), start(table)),
         Call::Check(n, table, body) => (format!("check, n {n}, body {}", start(body)), table.len(), start(table)),
         Call::Parse(n, text, room) => (format!("parse, n {n}, room of {room} bytes"), text.len(), format!("{:?}", String::from_utf8_lossy(text))),
         Call::Render(n, body, room) => (format!("render, n {n}, room of {room} bytes"), body.len(), start(body)),
@@ -636,13 +647,19 @@ const BAD_TABLES: [(usize, [usize; 2]); 6] = [(1, [1, 2]), (2, [1, 4]), (3, [0, 
 // A body's bad lengths; 258 is 2 in one byte, and 65,538 is 2 in two bytes.
 const BAD_LENGTHS: [usize; 13] = [0, 1, 3, 5, 127, 253, 255, 256, 257, 258, 512, 65_536, 65_538];
 
-fn tables_refused(tally: &mut Tally) {
+// The two builds.
+const BUILDS: [(&str, fn(usize, u64, &[u8], usize) -> Call); 2] = [
+    ("to build from", |n, set, table, room| Call::Build(n, set, table, room)),
+    ("to build from with a veto", |n, set, table, room| Call::Veto(n, set, table, room)),
+];
+
+fn tables_refused(tally: &mut Tally, what: &str, call: fn(usize, u64, &[u8], usize) -> Call) {
     // 43,680 bytes are a table of 65 species. n comes first, then the length, then the bytes, then the set, what is outside it, and the room.
     for n in BAD_COUNTS {
         for length in [0, 4, 5, 41_664, 43_680] {
             for byte in [0, 1, 255] {
                 for (set, room) in [(0, 0), (15, 14), (u64::MAX, 300)] {
-                    tally.calls("n 0 or over 64", Call::Build(n, set, &vec![byte; length], room), 2, &[], None);
+                    tally.calls("n 0 or over 64", call(n, set, &vec![byte; length], room), 2, &[], None);
                 }
             }
         }
@@ -651,7 +668,7 @@ fn tables_refused(tally: &mut Tally) {
         for length in lengths {
             for byte in [0, 3, 255] {
                 for (set, room) in [(0, 0), (all(n), 4 * n - 3), (all(n), 4 * n - 2), (1, 300), (u64::MAX, 300)] {
-                    tally.calls("a table of a wrong length", Call::Build(n, set, &vec![byte; length], room), 7, &[], None);
+                    tally.calls("a table of a wrong length", call(n, set, &vec![byte; length], room), 7, &[], None);
                 }
             }
         }
@@ -660,7 +677,7 @@ fn tables_refused(tally: &mut Tally) {
     last[41_663] = 16;
     for (n, table, first) in OVER.into_iter().chain([(64, &last[..], 41_663)]) {
         for (set, room) in [(0, 0), (all(n), 4 * n - 3), (all(n), 4 * n - 2), (1, 300), (u64::MAX, 300)] {
-            tally.calls("a byte over 15", Call::Build(n, set, table, room), 8, &[first], None);
+            tally.calls("a byte over 15", call(n, set, table, room), 8, &[first], None);
         }
     }
     // Room for the body alone is not enough, and a table that no tree holds is 9 all the same.
@@ -681,13 +698,13 @@ fn tables_refused(tally: &mut Tally) {
     ];
     for (n, set, table, rooms) in rooms {
         for &room in rooms {
-            tally.calls("room too short", Call::Build(n, set, table, room), 9, &[], None);
+            tally.calls("room too short", call(n, set, table, room), 9, &[], None);
         }
     }
-    tally.end_part("tables to build from, refused");
+    tally.end_part(&format!("tables {what}, refused"));
 }
 
-fn sets_refused(tally: &mut Tally) {
+fn sets_refused(tally: &mut Tally, what: &str, call: fn(usize, u64, &[u8], usize) -> Call) {
     // Empty, or with a bit at n or above, whatever the table has and the room.
     let sets: [(usize, &[u64]); 5] = [
         (1, &[0, 2, 3, 1 << 32, 1 << 63, u64::MAX]),
@@ -700,7 +717,7 @@ fn sets_refused(tally: &mut Tally) {
         for &set in sets {
             for byte in [0, 1, 8, 15] {
                 for room in [0, 4 * n - 2, 300] {
-                    tally.calls("no set of the species", Call::Build(n, set, &vec![byte; fitting(n)], room), 15, &[], None);
+                    tally.calls("no set of the species", call(n, set, &vec![byte; fitting(n)], room), 15, &[], None);
                 }
             }
         }
@@ -733,10 +750,10 @@ fn sets_refused(tally: &mut Tally) {
     ];
     for (n, set, table, first) in outside {
         for room in [0, body_room(set), 300] {
-            tally.calls("a byte outside the set", Call::Build(n, set, table, room), 16, &[first], None);
+            tally.calls("a byte outside the set", call(n, set, table, room), 16, &[first], None);
         }
     }
-    tally.end_part("sets to build over, refused");
+    tally.end_part(&format!("sets with tables {what}, refused"));
 }
 
 fn tables_without_a_tree(tally: &mut Tally) {
@@ -828,6 +845,36 @@ fn tables_built(tally: &mut Tally) {
     tally.built_over("the leaf 63 of 64", 64, 1 << 63, &[0; 41_664], &[255, 63]);
     tally.built_over("the last triple of 64, over the three", 64, 7 << 61, &table, &[255, 255, 0, 255, 1, 61, 1, 62, 0, 63]);
     tally.end_part("tables that a tree holds, bodies written out");
+}
+
+fn tables_vetoed(tally: &mut Tally) {
+    for byte in [3, 5, 6, 7, 11, 13, 14, 15] {
+        tally.vetoed("two or three of a triple", 3, 7, &[byte], &FAN);
+    }
+    let star = [255, 255, 0, 0, 0, 1, 0, 2, 0, 3];
+    tally.vetoed("01|2 and 02|1 of 4", 4, 15, &[3, 0, 0, 0], &[255, 255, 0, 255, 1, 0, 1, 1, 1, 2, 0, 3]);
+    tally.vetoed("13|2 and 23|1 of 4", 4, 15, &[0, 0, 0, 6], &[255, 255, 0, 0, 0, 255, 2, 1, 2, 2, 2, 3]);
+    tally.vetoed("01|2, 03|1 and 12|3", 4, 15, &[1, 2, 0, 1], &star);
+    tally.vetoed("01|2, 01|3, 23|0 and 13|2: not split again", 4, 15, &[1, 1, 4, 2], &star);
+    tally.vetoed("all of 4", 4, 15, &[7; 4], &star);
+    tally.vetoed("far down", 5, 31, &[3, 1, 1, 1, 1, 1, 1, 1, 1, 1], &[255, 255, 0, 255, 1, 255, 2, 0, 2, 1, 2, 2, 1, 3, 0, 4]);
+    let mut table = [0; 20];
+    (table[0], table[19]) = (5, 3);
+    tally.vetoed("two beside each other", 6, 63, &table, &[255, 255, 0, 255, 1, 0, 1, 1, 1, 2, 0, 255, 5, 3, 5, 4, 5, 5]);
+    // (0,1,2) is joined below {0,1,2,3}, which 23|4 joins; (4,5,6) is joined higher up.
+    let mut table = [0; 35];
+    (table[0], table[9], table[34]) = (3, 1, 3);
+    tally.vetoed("a deep set and a high one", 7, 127, &table, &[255, 255, 0, 255, 1, 255, 2, 0, 2, 1, 2, 2, 1, 3, 0, 255, 7, 4, 7, 5, 7, 6]);
+    tally.vetoed("01|3 and 03|1, over the three", 4, 11, &[0, 3, 0, 0], &[255, 255, 0, 0, 0, 1, 0, 3]);
+    tally.vetoed("14|2 and 24|1, and 0 beside them", 5, 23, &[0, 0, 0, 0, 0, 0, 6, 0, 0, 0], &[255, 255, 0, 0, 0, 255, 2, 1, 2, 2, 2, 4]);
+    let mut star = vec![255, 255];
+    star.extend((0..64).flat_map(|s| [0, s]));
+    tally.vetoed("all of 64", 64, u64::MAX, &[7; 41_664], &star);
+    for quarrel in shapes::quarrels() {
+        let (_, house) = plain::order(64, &quarrel.body, 254);
+        tally.vetoed(quarrel.name, 64, u64::MAX, &quarrel.table, &house.unwrap());
+    }
+    tally.end_part("tables that quarrel, built with a veto, bodies written out");
 }
 
 // ((0,1),2), ((0,2),1), (0,(1,2)) and the fan of the three.
@@ -1228,6 +1275,11 @@ fn small_candidates(tally: &mut Tally) {
     tally.end_part("every candidate of up to 4 species and every table, against the second program");
 }
 
+// Both builds, each with what the second program tells and writes.
+fn builds<'a>(n: usize, set: u64, table: &'a [u8], room: usize) -> [((Told, Option<Vec<u8>>), Call<'a>); 2] {
+    [(plain::build(n, set, table, room), Call::Build(n, set, table, room)), (plain::veto(n, set, table, room), Call::Veto(n, set, table, room))]
+}
+
 // Every table of up to 4 species and every set of them, with some numbers that are no set, in rooms about the least one.
 fn small_sets(tally: &mut Tally) {
     let mut answers = Answers::default();
@@ -1237,9 +1289,10 @@ fn small_sets(tally: &mut Tally) {
             for set in (0..=all(n)).chain(beyond) {
                 let least = (4 * set.count_ones() as usize).saturating_sub(2);
                 for room in [least.saturating_sub(1), least] {
-                    let (told, body) = plain::build(n, set, &table, room);
-                    answers.count(&told);
-                    tally.call("a small set", Call::Build(n, set, &table, room), tally.cases % (MOST_VALUES + 1), &told, body.as_deref());
+                    for ((told, body), call) in builds(n, set, &table, room) {
+                        answers.count(&told);
+                        tally.call("a small set", call, tally.cases % (MOST_VALUES + 1), &told, body.as_deref());
+                    }
                 }
             }
         }
@@ -1550,15 +1603,16 @@ fn random_tables(tally: &mut Tally) {
             kind = damage_table(&mut n, &mut table, &mut dice);
         }
         let room = random_body_room(body_room(set.max(1)), &mut dice);
-        let (told, body) = plain::build(n, set, &table, room);
-        answers.count(&told);
-        if told.number == 0 && set != all(n) {
-            parts += 1;
+        for ((told, body), call) in builds(n, set, &table, room) {
+            answers.count(&told);
+            if told.number == 0 && set != all(n) {
+                parts += 1;
+            }
+            if told.number == 10 && told.values[0] as u64 != set {
+                inside += 1;
+            }
+            tally.call(kind, call, dice.below(MOST_VALUES + 1), &told, body.as_deref());
         }
-        if told.number == 10 && told.values[0] as u64 != set {
-            inside += 1;
-        }
-        tally.call(kind, Call::Build(n, set, &table, room), dice.below(MOST_VALUES + 1), &told, body.as_deref());
     }
     answers.show("building");
     println!("  of 0, over a part of the species: {parts}; of 10, sets without some of the species: {inside}");
@@ -1580,7 +1634,9 @@ fn random_trees(tally: &mut Tally) {
         tally.call("the table of one tree", Call::List(&one, fitting(n)), MOST_VALUES, &list_told, table.as_deref());
         let table = table.unwrap();
         assert_eq!(plain::build(n, set, &table, room).1, house, "the second program builds another tree");
-        tally.call("the tree built again", Call::Build(n, set, &table, room), MOST_VALUES, &told, house.as_deref());
+        for call in [Call::Build(n, set, &table, room), Call::Veto(n, set, &table, room)] {
+            tally.call("the tree built again", call, MOST_VALUES, &told, house.as_deref());
+        }
     }
     tally.end_part(&format!("{TREES} random trees, seed {SEED}: listed, put in house order and built again over the set that occurs"));
 }
@@ -1723,10 +1779,13 @@ fn main() {
     bodies_without_room(&mut tally);
     bodies_ordered(&mut tally);
     random_bodies(&mut tally);
-    tables_refused(&mut tally);
-    sets_refused(&mut tally);
+    for (what, call) in BUILDS {
+        tables_refused(&mut tally, what, call);
+        sets_refused(&mut tally, what, call);
+    }
     tables_without_a_tree(&mut tally);
     tables_built(&mut tally);
+    tables_vetoed(&mut tally);
     small_sets(&mut tally);
     random_tables(&mut tally);
     random_trees(&mut tally);

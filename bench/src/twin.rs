@@ -642,8 +642,21 @@ enum Grown {
     Stopped(u64),
 }
 
-// Builds the set s, as node `at` under a parent.
-fn grow(t: &[u8], s: u64, draft: &mut [u8], at: usize, parent: u8) -> Grown {
+// Writes a node with the species of s as leaves under it, as node `at` under a parent. Returns the number of the next node.
+fn put_star(s: u64, draft: &mut [u8], at: usize, parent: u8) -> usize {
+    put_node(draft, at, parent, NONE);
+    let mut next = at + 1;
+    let mut left = s;
+    while left != 0 {
+        put_node(draft, next, at as u8, lowest(left) as u8);
+        next += 1;
+        left = rest(left);
+    }
+    next
+}
+
+// Builds the set s, as node `at` under a parent. A set that is joined stops the plain build, and becomes a star in the veto build.
+fn grow(t: &[u8], s: u64, veto: bool, draft: &mut [u8], at: usize, parent: u8) -> Grown {
     if s.count_ones() == 1 {
         put_node(draft, at, parent, lowest(s) as u8);
         return Grown::Next(at + 1);
@@ -651,13 +664,13 @@ fn grow(t: &[u8], s: u64, draft: &mut [u8], at: usize, parent: u8) -> Grown {
     let mut parts = [0; 64];
     let count = split(t, s, &mut parts);
     if count == 1 {
-        return Grown::Stopped(s);
+        return if veto { Grown::Next(put_star(s, draft, at, parent)) } else { Grown::Stopped(s) };
     }
     put_node(draft, at, parent, NONE);
     let mut next = at + 1;
     let mut k = 0;
     while k < count {
-        match grow(t, parts[k], draft, next, at as u8) {
+        match grow(t, parts[k], veto, draft, next, at as u8) {
             Grown::Next(m) => next = m,
             Grown::Stopped(u) => return Grown::Stopped(u),
         }
@@ -708,7 +721,7 @@ fn first_outside(n: usize, t: &[u8], s: u64) -> Found {
     found
 }
 
-fn build_answer(n: usize, set: u64, t: &[u8], out: &mut [u8]) -> Answer {
+fn build_answer(n: usize, set: u64, t: &[u8], veto: bool, out: &mut [u8]) -> Answer {
     if let Some(refusal) = table_refusal(n, t) {
         return refusal;
     }
@@ -722,7 +735,7 @@ fn build_answer(n: usize, set: u64, t: &[u8], out: &mut [u8]) -> Answer {
         return Answer::ShortRoom;
     }
     let mut draft = [0; 254];
-    match grow(t, set, &mut draft, 0, NONE) {
+    match grow(t, set, veto, &mut draft, 0, NONE) {
         Grown::Next(m) => {
             let end = WIDTH * m;
             out[..end].copy_from_slice(&draft[..end]);
@@ -1231,7 +1244,11 @@ pub fn order(n: usize, body: &[u8], out: &mut [u8], values: &mut [usize]) -> usi
 }
 
 pub fn build(n: usize, set: u64, t: &[u8], out: &mut [u8], values: &mut [usize]) -> usize {
-    hand_back(build_answer(n, set, t, out), values)
+    hand_back(build_answer(n, set, t, false, out), values)
+}
+
+pub fn veto(n: usize, set: u64, t: &[u8], out: &mut [u8], values: &mut [usize]) -> usize {
+    hand_back(build_answer(n, set, t, true, out), values)
 }
 
 pub fn check(n: usize, t: &[u8], body: &[u8], values: &mut [usize]) -> usize {

@@ -2,7 +2,7 @@
 
 use std::fmt::Write;
 
-use crate::operations::{build, check, enter, list, order, parse, read, render, Collection, Refusal};
+use crate::operations::{build, check, enter, list, order, parse, read, render, veto, Collection, Refusal};
 use crate::trees::Fault;
 
 /// The longest slice, in bytes, and the longest list of records that a call may hand over.
@@ -16,6 +16,7 @@ pub enum Call {
     Enter { n: u64, records: Vec<[u8; 3]>, table: Vec<u8> },
     Order { n: u64, body: Vec<u8>, room: Vec<u8> },
     Build { n: u64, set: u64, table: Vec<u8>, room: Vec<u8> },
+    Veto { n: u64, set: u64, table: Vec<u8>, room: Vec<u8> },
     Check { n: u64, table: Vec<u8>, body: Vec<u8> },
     Parse { n: u64, text: Vec<u8>, room: Vec<u8> },
     Render { n: u64, body: Vec<u8>, room: Vec<u8> },
@@ -39,6 +40,7 @@ impl Call {
             Call::Enter { .. } => 'e',
             Call::Order { .. } => 'o',
             Call::Build { .. } => 'b',
+            Call::Veto { .. } => 'v',
             Call::Check { .. } => 'c',
             Call::Parse { .. } => 'n',
             Call::Render { .. } => 'w',
@@ -65,7 +67,7 @@ impl Call {
                 }
                 put_slice(out, table);
             }
-            Call::Build { n, set, table, room } => {
+            Call::Build { n, set, table, room } | Call::Veto { n, set, table, room } => {
                 out.extend(n.to_be_bytes());
                 out.extend(set.to_be_bytes());
                 put_slice(out, table);
@@ -80,6 +82,12 @@ impl Call {
                 put_slice(out, two);
             }
         }
+    }
+
+    /// The build and the veto build of the same.
+    pub fn both_builds(n: u64, set: u64, table: Vec<u8>, room: Vec<u8>) -> [Call; 2] {
+        let build = Call::Build { n, set, table: table.clone(), room: room.clone() };
+        [build, Call::Veto { n, set, table, room }]
     }
 
     pub fn bytes(&self) -> Vec<u8> {
@@ -106,6 +114,7 @@ impl Call {
             }
             Call::Order { n, body, room } => in_room(room, |room| order(*n, body, room)),
             Call::Build { n, set, table, room } => in_room(room, |room| build(*n, *set, table, room)),
+            Call::Veto { n, set, table, room } => in_room(room, |room| veto(*n, *set, table, room)),
             Call::Check { n, table, body } => {
                 let given = check(*n, table, body).map(|()| vec![]);
                 answer(given, None)
@@ -154,6 +163,10 @@ impl Call {
             b'b' => {
                 let (n, set) = (number(input, 8)?, number(input, 8)?);
                 Call::Build { n, set, table: slice(input)?, room: slice(input)? }
+            }
+            b'v' => {
+                let (n, set) = (number(input, 8)?, number(input, 8)?);
+                Call::Veto { n, set, table: slice(input)?, room: slice(input)? }
             }
             b'c' => Call::Check { n: number(input, 8)?, table: slice(input)?, body: slice(input)? },
             b'n' => Call::Parse { n: number(input, 8)?, text: slice(input)?, room: slice(input)? },

@@ -1,6 +1,6 @@
-//! Entered triplets, links, parts and the build (document 01, "Triplets, links, building").
+//! Entered triplets, links, parts and the two builds (document 01, "Triplets, links, building"; document 02, T-06).
 
-use crate::trees::{tables_of_all_trees, Tree};
+use crate::trees::{subsets, tables_of_all_trees, Tree};
 use crate::triples::{all, has, has_three, index, members, one, triples, triplets_on};
 
 /// A set of triplets: for each pair, the species that are third to it.
@@ -8,6 +8,14 @@ use crate::triples::{all, has, has_three, index, members, one, triples, triplets
 pub struct Entered {
     n: usize,
     third: Vec<u64>,
+}
+
+/// What becomes of a set whose links join it all: the build stops there; or, in the veto build, "every species of that
+/// set becomes a leaf under it".
+#[derive(Clone, Copy)]
+pub enum Joined {
+    Stops,
+    Leaves,
 }
 
 impl Entered {
@@ -57,19 +65,38 @@ impl Entered {
     }
 
     /// The tree on a set, or the first set that stops, in preorder.
-    pub fn build(&self, set: u64) -> Result<Tree, u64> {
+    pub fn build(&self, set: u64, joined: Joined) -> Result<Tree, u64> {
         if set.count_ones() == 1 {
             return Ok(Tree::Leaf(set.trailing_zeros() as usize));
         }
         let parts = self.parts(set);
         if parts.len() == 1 {
-            return Err(set);
+            return match joined {
+                Joined::Stops => Err(set),
+                Joined::Leaves => Ok(Tree::Inner(members(set).map(Tree::Leaf).collect())),
+            };
         }
         let mut children = Vec::new();
         for part in parts {
-            children.push(self.build(part)?);
+            children.push(self.build(part, joined)?);
         }
         Ok(Tree::Inner(children))
+    }
+
+    /// Whether the tree is what the veto build's rule gives, node by node. Whether species are joined is asked of every
+    /// way to put them in two heaps, so this is for small sets.
+    pub fn keeps_the_veto_rule(&self, tree: &Tree) -> bool {
+        let Tree::Inner(children) = tree else { return true };
+        let set = tree.species();
+        let link = |some: u64, others: u64| members(some).any(|a| members(others).any(|b| self.linked(set, a, b)));
+        let joined = |part: u64| subsets(part).into_iter().all(|x| x == 0 || x == part || link(x, part & !x));
+        if joined(set) {
+            return children.iter().all(|child| matches!(child, Tree::Leaf(_)));
+        }
+        children.iter().all(|child| {
+            let part = child.species();
+            joined(part) && !link(part, set & !part) && self.keeps_the_veto_rule(child)
+        })
     }
 
     /// Whether no tree holds these triplets together with xy|z, by a chain of parts. For triplets
@@ -95,7 +122,7 @@ impl Entered {
 /// has no fans and says nothing of others. Up to n = 5 all trees are looked at, and the build is held against
 /// them; above that it is the build.
 pub fn some_tree_holds(n: usize, set: u64, table: &[u8]) -> bool {
-    let built = Entered::from_table(n, table).build(set);
+    let built = Entered::from_table(n, table).build(set, Joined::Stops);
     if n > 5 {
         return built.is_ok();
     }
@@ -128,14 +155,14 @@ fn holds_all(says: &[u8], table: &[u8]) -> bool {
 
 /// The build on a set in another way: its species are numbered anew from 0 on, built as all that there
 /// are, and get their numbers back. Up to five of them, all trees are looked at.
-pub fn build_numbered_anew(set: u64, table: &[u8]) -> Result<Tree, u64> {
+pub fn build_numbered_anew(set: u64, table: &[u8], joined: Joined) -> Result<Tree, u64> {
     let numbers: Vec<usize> = members(set).collect();
     let s = numbers.len();
     let anew: Vec<u8> = triples(s).map(|(a, b, c)| table[index(numbers[a], numbers[b], numbers[c])]).collect();
     if s <= 5 {
         some_tree_holds(s, all(s), &anew);
     }
-    match Entered::from_table(s, &anew).build(all(s)) {
+    match Entered::from_table(s, &anew).build(all(s), joined) {
         Ok(tree) => Ok(tree.renamed(&|i| numbers[i])),
         Err(stop) => Err(members(stop).fold(0, |stop, i| stop | one(numbers[i]))),
     }

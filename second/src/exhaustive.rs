@@ -124,15 +124,14 @@ pub fn exhaustive(push: &mut dyn FnMut(Call) -> bool) {
         let trees = trees(n);
         let wide = n as u64;
 
-        // every table with every set into build: with exactly the room, one byte less, and more; sets that are
-        // none, without room and with enough
+        // every table with every set into both builds: with exactly the room, one byte less, and more; sets that
+        // are none, without room and with enough
         let good = some_species(n).into_iter().map(|set| (set, rooms_about(set)));
         let bad = no_sets(n).into_iter().map(|set| (set, vec![0, 4 * n - 2]));
         for (set, rooms) in good.chain(bad) {
             for table in &tables {
                 for &room in &rooms {
-                    let call = Call::Build { n: wide, set, table: table.clone(), room: vec![9; room] };
-                    if !push(call) {
+                    if !Call::both_builds(wide, set, table.clone(), vec![9; room]).into_iter().all(&mut *push) {
                         return;
                     }
                 }
@@ -221,7 +220,7 @@ pub fn exhaustive(push: &mut dyn FnMut(Call) -> bool) {
 }
 
 /// Of three species every byte that there is; of four some bytes that are too large, and every table once more with fans
-/// added, the next ones from table to table. Each with every set into build, and with every candidate into check.
+/// added, the next ones from table to table. Each with every set into both builds, and with every candidate into check.
 pub fn fans(push: &mut dyn FnMut(Call) -> bool) -> bool {
     let with_fans = |(k, table): (usize, Vec<u8>)| {
         let added = 1 + k % 15;
@@ -234,9 +233,9 @@ pub fn fans(push: &mut dyn FnMut(Call) -> bool) -> bool {
         let wide = n as u64;
         let candidates: Vec<Vec<u8>> = trees(n).iter().map(Tree::house_order).collect();
         tables.iter().all(|table| {
-            let build = |set| Call::Build { n: wide, set, table: table.clone(), room: vec![9; 4 * n - 2] };
+            let build = |set| Call::both_builds(wide, set, table.clone(), vec![9; 4 * n - 2]);
             let check = |body: &Vec<u8>| Call::Check { n: wide, table: table.clone(), body: body.clone() };
-            some_species(n).into_iter().map(build).chain(candidates.iter().map(check)).all(&mut *push)
+            some_species(n).into_iter().flat_map(build).chain(candidates.iter().map(check)).all(&mut *push)
         })
     })
 }
@@ -245,7 +244,7 @@ pub fn fans(push: &mut dyn FnMut(Call) -> bool) -> bool {
 /// large n, and what comes first where there is more than one refusal.
 pub fn sets(push: &mut dyn FnMut(Call) -> bool) -> bool {
     let mut call = |n: u64, set: u64, table: &[u8], room: usize| {
-        push(Call::Build { n, set, table: table.to_vec(), room: vec![9; room] })
+        Call::both_builds(n, set, table.to_vec(), vec![9; room]).into_iter().all(&mut *push)
     };
     for n in [5, 6] {
         let length = choose(n, 3);

@@ -1,11 +1,12 @@
 //! Random calls and collections, good ones and damaged ones.
 
 use crate::calls::Call;
-use crate::entered::Entered;
+use crate::entered::{Entered, Joined};
+use crate::exhaustive::collection;
 use crate::operations::contradiction;
 use crate::random::Random;
 use crate::texts;
-use crate::trees::Tree;
+use crate::trees::{listed, Tree};
 use crate::triples::{all, choose, has_three, members, one, triples, without_fans, FAN};
 use crate::writer;
 
@@ -50,7 +51,7 @@ impl Inputs {
     fn with_other_fans(&mut self, call: &Call) -> Option<Call> {
         let mut call = call.clone();
         let (n, set, table) = match &mut call {
-            Call::Build { n, set, table, .. } => (*n, *set, table),
+            Call::Build { n, set, table, .. } | Call::Veto { n, set, table, .. } => (*n, *set, table),
             Call::Check { n, table, .. } => (*n, u64::MAX, table),
             _ => return None,
         };
@@ -70,7 +71,7 @@ impl Inputs {
         if n > 48 {
             self.large += 1;
         }
-        let letter = self.random.pick(b"rrrlllleeeoooobbbbbcccccccnnnnnwwwww");
+        let letter = self.random.pick(b"rrrlllleeeoooobbbbbvvvvvcccccccnnnnnwwwww");
         match letter {
             b'r' => Call::Read { bytes: self.collection(n) },
             b'l' => {
@@ -80,7 +81,16 @@ impl Inputs {
             }
             b'e' => self.enter(n),
             b'o' => self.order(n),
-            b'b' => self.build(n),
+            b'b' => {
+                let (table, papers) = self.table(n);
+                let (n, set, table, room) = self.to_build(n, table, &papers);
+                Call::Build { n, set, table, room }
+            }
+            b'v' => {
+                let (table, papers) = if self.random.chance(1, 2) { self.table(n) } else { self.quarrel_table(n) };
+                let (n, set, table, room) = self.to_build(n, table, &papers);
+                Call::Veto { n, set, table, room }
+            }
             b'n' => self.parse(n),
             b'w' => self.render(n),
             _ => self.check(n, slow_allowed),
@@ -367,15 +377,20 @@ impl Inputs {
         let mut trees = vec![tree.clone(), tree.clone(), tree.clone()];
         trees.push(self.less(&tree));
         trees.push(self.contracted(&tree, 1, 6));
-        // two species change places
-        let (one, two) = (self.random.below(n), self.random.below(n));
-        let swapped = |species| match species {
+        trees.push(self.exchanged(&tree, &(0..n).collect::<Vec<_>>()));
+        (n, trees.iter().map(|tree| self.body(tree)).collect())
+    }
+
+    /// The tree with two of these species in each other's place.
+    fn exchanged(&mut self, tree: &Tree, species: &[usize]) -> Tree {
+        let place = self.random.below(species.len());
+        let apart = self.random.below(species.len().max(2) - 1) + 1;
+        let (one, two) = (species[place], species[(place + apart) % species.len()]);
+        tree.renamed(&|species| match species {
             species if species == one => two,
             species if species == two => one,
             species => species,
-        };
-        trees.push(tree.renamed(&swapped));
-        (n, trees.iter().map(|tree| self.body(tree)).collect())
+        })
     }
 
     /// n, and a text of a good tree.
@@ -401,6 +416,36 @@ impl Inputs {
                 })
                 .collect()
         }
+    }
+
+    /// Trees of one collection that mostly quarrel: one tree, and others much like it with two species exchanged, so that
+    /// they quarrel in a part of it; or each its own.
+    fn quarrel(&mut self, n: usize) -> Vec<Tree> {
+        let count = self.random.between(2, 5);
+        if self.random.chance(1, 3) {
+            return self.papers(n, count);
+        }
+        let occur = if self.random.chance(1, 4) { self.some_species(n) } else { all(n) };
+        let species: Vec<usize> = members(occur).collect();
+        let whole = self.tree(occur);
+        let mut papers = vec![whole.clone()];
+        for _ in 1..count {
+            let less = self.less(&whole);
+            papers.push(self.exchanged(&less, &species));
+        }
+        papers
+    }
+
+    fn quarrel_table(&mut self, n: usize) -> (Vec<u8>, Vec<Tree>) {
+        let papers = self.quarrel(n);
+        (listed(n, &papers), papers)
+    }
+
+    /// n, and a collection whose trees mostly quarrel.
+    pub fn quarrel_collection(&mut self) -> (usize, Vec<u8>) {
+        let n = self.species().max(4);
+        let papers = self.quarrel(n);
+        (n, self.collection_of(n, &papers))
     }
 
     // ---- collections
@@ -496,13 +541,12 @@ impl Inputs {
     /// A collection of n species for which shelf builds, mostly.
     pub fn good_collection(&mut self, n: usize, count: usize) -> Vec<u8> {
         let papers = self.papers(n, count);
-        let mut bytes = vec![1, n as u8, count as u8];
-        for tree in &papers {
-            let body = self.body(tree);
-            bytes.extend((body.len() as u16).to_be_bytes());
-            bytes.extend(body);
-        }
-        bytes
+        self.collection_of(n, &papers)
+    }
+
+    fn collection_of(&mut self, n: usize, papers: &[Tree]) -> Vec<u8> {
+        let bodies: Vec<Vec<u8>> = papers.iter().map(|tree| self.body(tree)).collect();
+        collection(n, &bodies.iter().map(Vec::as_slice).collect::<Vec<_>>())
     }
 
     /// The largest collection: 16 trees of 64 species, two children at each inner node.
@@ -552,12 +596,7 @@ impl Inputs {
             kind => {
                 let count = self.random.between(1, 4);
                 let papers = self.papers(n, count);
-                let mut table = vec![0; length];
-                for tree in &papers {
-                    for (byte, says) in table.iter_mut().zip(tree.table(n)) {
-                        *byte |= says;
-                    }
-                }
+                let mut table = listed(n, &papers);
                 if kind >= 8 && length > 0 {
                     for _ in 0..self.random.between(1, 3) {
                         let place = self.random.below(length);
@@ -680,12 +719,12 @@ impl Inputs {
         }
     }
 
-    fn build(&mut self, n: usize) -> Call {
-        let (table, papers) = self.table(n);
-        let set = self.set(n, &table, &papers);
+    /// n, a set, the table and a room, to be handed to one of the builds.
+    fn to_build(&mut self, n: usize, table: Vec<u8>, papers: &[Tree]) -> (u64, u64, Vec<u8>, Vec<u8>) {
+        let set = self.set(n, &table, papers);
         let table = self.table_handed(table);
         let room = self.room((4 * set.count_ones() as usize).saturating_sub(2));
-        Call::Build { n: self.handed(n), set, table, room }
+        (self.handed(n), set, table, room)
     }
 
     /// A text of a tree, often of one that breaks a rule or is about as large as a text's may be; and
@@ -724,7 +763,7 @@ impl Inputs {
         let (table, papers) = self.table(n);
         let tree = match self.random.below(8) {
             0 | 1 if !papers.is_empty() => papers[self.random.below(papers.len())].clone(),
-            2..=4 => match Entered::from_table(n, &table).build(all(n)) {
+            2..=4 => match Entered::from_table(n, &table).build(all(n), Joined::Stops) {
                 Ok(tree) => tree,
                 Err(set) => self.tree(all(n) & !one(set.trailing_zeros() as usize) | one(0)),
             },
@@ -732,7 +771,7 @@ impl Inputs {
                 let tree = papers[self.random.below(papers.len())].clone();
                 self.less(&tree)
             }
-            6 => match Entered::from_table(n, &table).build(all(n)) {
+            6 => match Entered::from_table(n, &table).build(all(n), Joined::Stops) {
                 Ok(tree) => self.less(&tree),
                 Err(_) => self.tree(all(n)),
             },

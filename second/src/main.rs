@@ -38,12 +38,13 @@ const SEED: u64 = 1;
 const TEXTS: usize = 5;
 
 /// Every number that each operation has, and every fault of its refusal 6.
-const NUMBERS: [(char, &str, &[u8], &[&str]); 8] = [
+const NUMBERS: [(char, &str, &[u8], &[&str]); 9] = [
     ('r', "read", &[0, 1, 2, 3, 4, 5, 6], &FAULTS),
     ('l', "list", &[0, 1, 2, 3, 4, 5, 6, 7], &FAULTS),
     ('e', "enter", &[0, 2, 7, 13], &[]),
     ('o', "order", &[0, 2, 5, 6, 9], &FAULTS),
     ('b', "build", &[0, 2, 7, 8, 9, 10, 15, 16], &[]),
+    ('v', "veto", &[0, 2, 7, 8, 9, 15, 16], &[]),
     ('c', "check", &[0, 2, 5, 6, 7, 8, 11, 12], &FAULTS),
     // a text cannot make a bad parent
     ('n', "parse", &[0, 2, 6, 9, 14], &["species", "seen", "only"]),
@@ -192,7 +193,9 @@ fn compare_all(programs: Programs, calls: u64, seed: u64, texts: usize) -> ExitC
             exhaustive::rooms(push);
         });
     });
-    part(&mut comparison, "texts written and read again, trees listed and built again", |c| rounds::compare(c, seed));
+    part(&mut comparison, "texts written and read again, trees listed and built again, with a veto too", |c| {
+        rounds::compare(c, seed)
+    });
     let fixed = std::mem::take(&mut comparison.counts);
     let mut made = (0, 0);
     part(&mut comparison, "random calls", |c| {

@@ -1,6 +1,6 @@
 //! Runs by name, each with its outcome written out by hand: those of document 01, worked examples of
-//! its source papers, Newick texts, read and written (document 02, T-01 and T-02), sets that occur (T-03), and fans in
-//! tables (T-05).
+//! its source papers, Newick texts, read and written (document 02, T-01 and T-02), sets that occur (T-03), fans in
+//! tables (T-05), and builds with a veto (T-06).
 
 use crate::calls::Call;
 use crate::compare::{shown, split, Comparison};
@@ -31,12 +31,17 @@ impl Runs {
         self.call(name, Call::Build { n: n as u64, set, table, room }, line);
     }
 
-    /// The same, named by what is handed in. Where nothing is written, the room is as it was.
+    /// The same, named by what is handed in.
     fn built(&mut self, n: usize, set: u64, table: &[u8], room: usize, told: &str) {
-        let shown = if table.len() <= 10 { format!("{table:?}") } else { format!("of {} bytes", table.len()) };
-        let name = format!("n={n}, set {set}, table {shown}, room of {room} bytes");
-        let line = if told.contains('|') { told.to_string() } else { format!("{told} |{}", " 9".repeat(room)) };
+        let (name, line) = told_by_input(n, set, table, room, told);
         self.build_over(&name, n, set, table, room, &line);
+    }
+
+    /// The veto build in the same way.
+    fn vetoed(&mut self, n: usize, set: u64, table: &[u8], room: usize, told: &str) {
+        let (name, line) = told_by_input(n, set, table, room, told);
+        let (table, room) = (table.to_vec(), vec![9; room]);
+        self.call(&format!("veto, {name}"), Call::Veto { n: n as u64, set, table, room }, &line);
     }
 
     fn check(&mut self, name: &str, n: usize, table: &[u8], body: &[u8], line: &str) {
@@ -83,6 +88,14 @@ impl Runs {
 /// The body of a tree such as ((0,1),2), in house order.
 fn body(tree: &str) -> Vec<u8> {
     newick::read(format!("{tree};").as_bytes()).expect("a tree").house_order()
+}
+
+/// The name of a build by what is handed in, and its line. Where nothing is written, the room is as it was.
+fn told_by_input(n: usize, set: u64, table: &[u8], room: usize, told: &str) -> (String, String) {
+    let shown = if table.len() <= 10 { format!("{table:?}") } else { format!("of {} bytes", table.len()) };
+    let name = format!("n={n}, set {set}, table {shown}, room of {room} bytes");
+    let line = if told.contains('|') { told.to_string() } else { format!("{told} |{}", " 9".repeat(room)) };
+    (name, line)
 }
 
 /// Bytes in decimal, each after a space.
@@ -589,6 +602,81 @@ fn fans_used(runs: &mut Runs) {
     );
 }
 
+/// Builds with a veto, and their refusals in their order.
+fn vetoes(runs: &mut Runs) {
+    let mut veto = |n, set, table: &[u8], room, told: &str| runs.vetoed(n, set, table, room, told);
+    // no quarrel: as the plain build
+    veto(1, 1, &[], 2, "0 1 | 255 0");
+    veto(2, 3, &[], 6, "0 3 | 255 255 0 0 0 1");
+    veto(2, 2, &[], 3, "0 1 | 255 1 9");
+    veto(3, 7, &[0], 10, "0 4 | 255 255 0 0 0 1 0 2 9 9");
+    veto(3, 7, &[2], 10, "0 5 | 255 255 0 255 1 0 1 2 0 1");
+    veto(4, 15, &[1, 0, 0, 1], 14, "0 7 | 255 255 0 255 1 255 2 0 2 1 1 2 0 3");
+    veto(4, 15, &[1, 1, 4, 4], 14, "0 7 | 255 255 0 255 1 0 1 1 0 255 4 2 4 3");
+    veto(4, 11, &[0, 2, 0, 0], 12, "0 5 | 255 255 0 255 1 0 1 3 0 1 9 9");
+    // a set that is joined: its species are leaves under it
+    for byte in [3, 5, 6, 7, 11, 13, 14, 15] {
+        veto(3, 7, &[byte], 10, "0 4 | 255 255 0 0 0 1 0 2 9 9");
+    }
+    veto(4, 15, &[3, 0, 0, 0], 14, "0 6 | 255 255 0 255 1 0 1 1 1 2 0 3 9 9");
+    veto(4, 15, &[0, 0, 0, 6], 14, "0 6 | 255 255 0 0 0 255 2 1 2 2 2 3 9 9");
+    veto(4, 15, &[1, 2, 0, 1], 14, "0 5 | 255 255 0 0 0 1 0 2 0 3 9 9 9 9");
+    veto(4, 15, &[7, 7, 7, 7], 15, "0 5 | 255 255 0 0 0 1 0 2 0 3 9 9 9 9 9");
+    // all agree on 0 and 1, and the set of all four is joined: it is not split again
+    veto(4, 15, &[1, 1, 4, 2], 14, "0 5 | 255 255 0 0 0 1 0 2 0 3 9 9 9 9");
+    // ((((0,1),2),3),4) and ((((0,2),1),3),4): they quarrel far down
+    let deep = [3, 1, 1, 1, 1, 1, 1, 1, 1, 1];
+    veto(5, 31, &deep, 18, "0 8 | 255 255 0 255 1 255 2 0 2 1 2 2 1 3 0 4 9 9");
+    // 01|2 and 02|1, 34|5 and 35|4: two quarrels beside each other
+    let mut beside = [0; 20];
+    (beside[0], beside[19]) = (3, 3);
+    veto(6, 63, &beside, 22, "0 9 | 255 255 0 255 1 0 1 1 1 2 0 255 5 3 5 4 5 5 9 9 9 9");
+    // over a part of the species
+    veto(4, 11, &[0, 3, 0, 0], 10, "0 4 | 255 255 0 0 0 1 0 3 9 9");
+    veto(5, 23, &[0, 0, 0, 0, 0, 0, 3, 0, 0, 0], 14, "0 6 | 255 255 0 0 0 255 2 1 2 2 2 4 9 9");
+    // the source papers' examples that quarrel
+    let papers4 = [3, 2, 2, 2, 1, 1, 1, 0, 0, 0, 1, 1, 1, 0, 0, 0, 4, 4, 4, 0];
+    veto(6, 63, &papers4, 22, "0 9 | 255 255 0 255 1 0 1 1 1 2 1 3 0 255 6 4 6 5 9 9 9 9");
+    veto(4, 15, &[1, 3, 3, 3], 14, "0 5 | 255 255 0 0 0 1 0 2 0 3 9 9 9 9");
+    veto(4, 15, &[5, 1, 8, 8], 14, "0 6 | 255 255 0 255 1 0 1 1 1 2 0 3 9 9");
+    let papers7 = [1, 3, 6, 6, 3, 6, 6, 3, 3, 3, 5, 6, 6, 3, 3, 3, 5, 6, 6, 4];
+    veto(6, 63, &papers7, 22, "0 7 | 255 255 0 0 0 1 0 2 0 3 0 4 0 5 9 9 9 9 9 9 9 9");
+    // the refusals of the plain build, and never 10
+    veto(0, 1, &[], 2, "2");
+    veto(65, 1, &[3; 10], 2, "2");
+    veto(4, 0, &[3, 0, 0], 0, "7");
+    veto(4, 0, &[3, 17, 0, 16], 0, "8 1");
+    veto(4, 0, &[3, 0, 0, 0], 14, "15");
+    veto(4, 16, &[3, 0, 0, 0], 14, "15");
+    veto(4, u64::MAX, &[3, 0, 0, 0], 300, "15");
+    veto(4, 7, &[3, 1, 0, 0], 0, "16 1");
+    veto(4, 7, &[3, 8, 0, 0], 10, "16 1");
+    veto(4, 15, &[3, 0, 0, 0], 13, "9");
+    veto(3, 7, &[7], 9, "9");
+    veto(3, 4, &[0], 1, "9");
+    // 64 species
+    let star: String = (0..64).map(|i| format!(" 0 {i}")).collect();
+    let behind = " 9".repeat(254 - 2 * 65);
+    for byte in [7, 15] {
+        veto(64, u64::MAX, &[byte; 41_664], 254, &format!("0 65 | 255 255{star}{behind}"));
+    }
+    veto(64, u64::MAX, &[7; 41_664], 253, "9");
+    let mut last = [0; 41_664];
+    last[41_663] = 5;
+    let first: String = (0..61).map(|i| format!(" 0 {i}")).collect();
+    let behind = " 9".repeat(254 - 2 * 66);
+    veto(64, u64::MAX, &last, 254, &format!("0 66 | 255 255{first} 0 255 62 61 62 62 62 63{behind}"));
+    veto(64, 7 << 61, &last, 10, "0 4 | 255 255 0 61 0 62 0 63 9 9");
+
+    // PC passes; PI need not
+    let wide = body("((0,1,2),3)");
+    runs.check("the veto build of table 3 0 0 0, checked", 4, &[3, 0, 0, 0], &wide, "12 1");
+    let split = body("((0,1,2,3),(4,5))");
+    runs.check("the veto build of papers 4, checked", 6, &papers4, &split, "12 7");
+    let nested = body("(((0,1,2),3),4)");
+    runs.check("the veto build of a quarrel far down, checked", 5, &deep, &nested, "0");
+}
+
 /// Newick texts that are read: the body in the text's order.
 fn texts_read(runs: &mut Runs) {
     runs.parse(4, b"((0,1),2);", 5, "255 255 0 255 1 0 1 1 0 2", 2);
@@ -778,6 +866,7 @@ fn all_runs() -> Runs {
     sets_on_the_shelf(&mut runs);
     fans_listed(&mut runs);
     fans_used(&mut runs);
+    vetoes(&mut runs);
     texts_read(&mut runs);
     texts_refused(&mut runs);
     texts_written(&mut runs);

@@ -1,9 +1,9 @@
-//! The eight operations (document 01, "Numbers handed back", and document 02, T-01 to T-03 and T-05).
+//! The nine operations (document 01, "Numbers handed back", and document 02, T-01 to T-03, T-05 and T-06).
 
-use crate::entered::{build_numbered_anew, some_tree_holds, Entered};
+use crate::entered::{build_numbered_anew, some_tree_holds, Entered, Joined};
 use crate::grammar::{self, LONGEST_SEARCHED};
 use crate::newick;
-use crate::trees::{broken_rule, Fault, Tree};
+use crate::trees::{broken_rule, listed, Fault, Tree};
 use crate::triples::{all, choose, has, has_three, index, one, triples, triplets_on, without_fans, FAN};
 use crate::writer;
 
@@ -141,12 +141,7 @@ pub fn read(bytes: &[u8]) -> Result<Collection, Refusal> {
 pub fn list(bytes: &[u8], table: &mut [u8]) -> Result<Collection, Refusal> {
     let collection = read(bytes)?;
     table_length(collection.n, table)?;
-    table.fill(0);
-    for tree in &collection.trees {
-        for (byte, says) in table.iter_mut().zip(tree.table(collection.n)) {
-            *byte |= says;
-        }
-    }
+    table.copy_from_slice(&listed(collection.n, &collection.trees));
     Ok(collection)
 }
 
@@ -202,8 +197,8 @@ fn outside(n: usize, set: u64, table: &[u8]) -> Option<usize> {
     triples(n).zip(table).position(|((a, b, c), &byte)| byte != 0 && !has_three(set, a, b, c))
 }
 
-/// Builds the tree of a table over the species of a set, in the lent room. Returns the node count.
-pub fn build(n: u64, set: u64, table: &[u8], room: &mut [u8]) -> Result<usize, Refusal> {
+/// What both builds refuse. Returns n, and the table without its fans.
+fn buildable(n: u64, set: u64, table: &[u8], room: &[u8]) -> Result<(usize, Vec<u8>), Refusal> {
     let n = size(n)?;
     table_length(n, table)?;
     table_bytes(table)?;
@@ -216,19 +211,45 @@ pub fn build(n: u64, set: u64, table: &[u8], room: &mut [u8]) -> Result<usize, R
     if room.len() < 4 * set.count_ones() as usize - 2 {
         return Err(Refusal::Room);
     }
-    let entered = without_fans(table);
+    Ok((n, without_fans(table)))
+}
+
+/// The tree on a set, or the set that stops, found twice where the set has not all the species.
+fn built(n: usize, set: u64, entered: &[u8], joined: Joined) -> Result<Tree, u64> {
+    let built = Entered::from_table(n, entered).build(set, joined);
+    if set != all(n) {
+        let anew = build_numbered_anew(set, entered, joined);
+        assert_eq!(built, anew, "the build, with the species as they are and numbered anew");
+    }
+    built
+}
+
+/// Builds the tree of a table over the species of a set, in the lent room. Returns the node count.
+pub fn build(n: u64, set: u64, table: &[u8], room: &mut [u8]) -> Result<usize, Refusal> {
+    let (n, entered) = buildable(n, set, table, room)?;
     if n <= 5 {
         some_tree_holds(n, set, &entered); // holds the build against all trees
     }
-    let built = Entered::from_table(n, &entered).build(set);
-    if set != all(n) {
-        let anew = build_numbered_anew(set, &entered);
-        assert_eq!(built, anew, "the build, with the species as they are and numbered anew");
-    }
-    match built {
+    match built(n, set, &entered, Joined::Stops) {
         Err(set) => Err(Refusal::NoTree { set }),
         Ok(tree) => put_body(&tree.preorder(), room),
     }
+}
+
+/// Builds with a veto: the same, but where the links join a set, its species become leaves. Returns the node count.
+pub fn veto(n: u64, set: u64, table: &[u8], room: &mut [u8]) -> Result<usize, Refusal> {
+    let (n, entered) = buildable(n, set, table, room)?;
+    let tree = built(n, set, &entered, Joined::Leaves).expect("the veto build never stops");
+    let own = tree.triplets(n);
+    assert_eq!(contradicted(n, &own, &resolved(&own, &entered)), None, "the veto build's tree passes PC");
+    if some_tree_holds(n, set, &entered) {
+        assert_eq!(Ok(&tree), built(n, set, &entered, Joined::Stops).as_ref(), "the veto build is the plain one");
+    }
+    if set.count_ones() <= 5 {
+        assert!(Entered::from_table(n, &entered).keeps_the_veto_rule(&tree), "the veto build's rule, node by node");
+    }
+    assert!(tree.species() == set && tree == tree.sorted());
+    put_body(&tree.preorder(), room)
 }
 
 /// Reads a Newick text into the lent room, as a body in the text's order. Returns the node count.
@@ -265,21 +286,8 @@ pub fn check(n: u64, table: &[u8], body: &[u8]) -> Result<(), Refusal> {
     body_length(0, body.len())?;
     let candidate = tree_of(0, n, body)?;
     let own = candidate.triplets(n);
-
-    // R: the entered triplets on triples that the candidate resolves
-    let mut r = without_fans(table);
-    for (byte, says) in r.iter_mut().zip(&own) {
-        if *says == 0 {
-            *byte = 0;
-        }
-    }
-
-    // PC: the candidate's triplets and R together can be held by one tree
-    let both: Vec<u8> = own.iter().zip(&r).map(|(x, y)| x | y).collect();
-    let pc = some_tree_holds(n, all(n), &both);
-    let contradicted = contradiction(&own, table);
-    assert_eq!(pc, contradicted.is_none(), "PC, over trees and bit by bit");
-    if let Some(triple) = contradicted {
+    let mut r = resolved(&own, &without_fans(table));
+    if let Some(triple) = contradicted(n, &own, &r) {
         return Err(Refusal::Contradicted { triple, byte: table[triple] });
     }
 
@@ -311,6 +319,20 @@ pub fn check(n: u64, table: &[u8], body: &[u8]) -> Result<(), Refusal> {
         }
     }
     Ok(())
+}
+
+/// R: the entered triplets on triples that the candidate resolves.
+fn resolved(own: &[u8], entered: &[u8]) -> Vec<u8> {
+    own.iter().zip(entered).map(|(says, byte)| if *says == 0 { 0 } else { *byte }).collect()
+}
+
+/// PC: the candidate's triplets and R together can be held by one tree. Where they cannot, the first triple that shows it.
+fn contradicted(n: usize, own: &[u8], r: &[u8]) -> Option<usize> {
+    let both: Vec<u8> = own.iter().zip(r).map(|(x, y)| x | y).collect();
+    let pc = some_tree_holds(n, all(n), &both);
+    let found = contradiction(own, r);
+    assert_eq!(pc, found.is_none(), "PC, over trees and bit by bit");
+    found
 }
 
 /// The first triple of which the candidate holds a triplet and the table has another.

@@ -1,6 +1,6 @@
 //! What trial wrote is handed to it again: text that it wrote is read, and bodies that it read are written. And of all
 //! the bodies that it wrote, two have equal text exactly when they have the same groups (document 02, T-02). What it
-//! listed of one tree is built over the set that it returned (T-03).
+//! listed of one tree is built over the set that it returned (T-03); what it listed of trees that quarrel, with a veto (T-06).
 
 use std::collections::BTreeMap;
 
@@ -17,11 +17,17 @@ use crate::writer;
 const FAMILIES: usize = 3_000;
 const TEXTS: usize = 10_000;
 
+/// How many collections there are whose trees mostly quarrel.
+const QUARRELS: usize = 5_000;
+
 /// Tables of more than 16 species are long: of the trees with more, one in so many is listed and built.
 const LARGE_IN: usize = 50;
 
 /// n and bytes: a body or a text.
 type Handed = (u64, Vec<u8>);
+
+/// n, the set that occurs and the table, of a collection that was listed.
+type Listed = (u64, u64, Vec<u8>);
 
 /// The values of a line of 0, and what was lent.
 fn done(line: &str) -> Option<(Vec<u64>, Vec<u8>)> {
@@ -31,15 +37,19 @@ fn done(line: &str) -> Option<(Vec<u64>, Vec<u8>)> {
     Some((values, lent))
 }
 
-/// What trial writes to the front of the room for each of the calls, of which all have to give 0.
-fn written(comparison: &mut Comparison, calls: &[Call], bytes_each: usize) -> Option<Vec<Vec<u8>>> {
-    let lines = comparison.lines(calls);
+/// What stands at the front of the room in each of the lines, of which all have to be of 0.
+fn fronts(lines: &[Option<String>], bytes_each: usize) -> Option<Vec<Vec<u8>>> {
     let fronts = lines.iter().map(|line| {
         let (values, mut lent) = done(line.as_ref()?)?;
         lent.truncate(bytes_each * values[0] as usize);
         Some(lent)
     });
     fronts.collect()
+}
+
+/// The same of what trial writes for these calls.
+fn written(comparison: &mut Comparison, calls: &[Call], bytes_each: usize) -> Option<Vec<Vec<u8>>> {
+    fronts(&comparison.lines(calls), bytes_each)
 }
 
 /// Writes a body, in a room of its text's length or a little more.
@@ -96,22 +106,65 @@ fn all_bodies(comparison: &mut Comparison, inputs: &mut Inputs) -> Option<Vec<Ha
     Some(all)
 }
 
+/// Both builds of what was listed, over the set that occurs.
+fn both_builds((n, set, table): &Listed) -> [Call; 2] {
+    let room = vec![9; (4 * set.count_ones() as usize).saturating_sub(2)];
+    Call::both_builds(*n, *set, table.clone(), room)
+}
+
+/// Lists collections of n species.
+fn listed(comparison: &mut Comparison, collections: &[(usize, Vec<u8>)]) -> Option<Vec<Listed>> {
+    let list = |(n, bytes): &(usize, Vec<u8>)| Call::List { bytes: bytes.clone(), table: vec![9; choose(*n, 3)] };
+    let lines = comparison.lines(&collections.iter().map(list).collect::<Vec<_>>());
+    let tables = collections.iter().zip(&lines).map(|((n, _), line)| {
+        let (values, table) = done(line.as_ref()?)?;
+        Some((*n as u64, *values.get(2)?, table))
+    });
+    tables.collect()
+}
+
+/// Papers that mostly quarrel, built with a veto over the set that occurs: there is a tree, the check does not find it
+/// contradicted, and where the plain build gives a tree it is the same.
+fn vetoed(comparison: &mut Comparison, inputs: &mut Inputs) -> Option<()> {
+    let collections: Vec<(usize, Vec<u8>)> = (0..QUARRELS).map(|_| inputs.quarrel_collection()).collect();
+    let tables = listed(comparison, &collections)?;
+    let (builds, vetoes): (Vec<Call>, Vec<Call>) = tables.iter().map(|listed| both_builds(listed).into()).unzip();
+    let plain = comparison.lines(&builds);
+    let lines = comparison.lines(&vetoes);
+    let trees = fronts(&lines, 2)?;
+    let check = |((n, _, table), body): (&Listed, &Vec<u8>)| {
+        let (table, body) = (table.clone(), body.clone());
+        Call::Check { n: *n, table, body }
+    };
+    let checks: Vec<Call> = tables.iter().zip(&trees).map(check).collect();
+    let checked = comparison.lines(&checks);
+    let mut quarrels = 0;
+    for k in 0..trees.len() {
+        let [plain, veto, checked] = [&plain[k], &lines[k], &checked[k]].map(Option::as_deref);
+        let (plain, veto, checked) = (plain?, veto?, checked?);
+        quarrels += usize::from(plain.starts_with("10 "));
+        if plain.starts_with("0 ") && veto != plain && !comparison.enough() {
+            let note = "there is a plain build, and the veto build is another";
+            differs(comparison, note, &[vetoes[k].clone()], veto.as_bytes(), plain.as_bytes());
+        }
+        if checked.starts_with("11 ") && !comparison.enough() {
+            let note = "the veto build's tree does not pass PC";
+            differs(comparison, note, &[checks[k].clone()], checked.as_bytes(), b"not 11");
+        }
+    }
+    println!("second: {} collections built with a veto, of which {quarrels} quarrel", trees.len());
+    Some(())
+}
+
 /// Each tree is listed alone, and built from its table over the set that occurs: this gives it in house order.
 fn built_again(comparison: &mut Comparison, bodies: &[Handed], house: &[Vec<u8>]) -> Option<()> {
     let some: Vec<usize> = (0..bodies.len()).filter(|&k| bodies[k].0 <= 16 || k % LARGE_IN == 0).collect();
-    let list = |&k: &usize| {
+    let alone = |&k: &usize| {
         let (n, body) = &bodies[k];
-        let n = *n as usize;
-        Call::List { bytes: collection(n, &[body]), table: vec![9; choose(n, 3)] }
+        (*n as usize, collection(*n as usize, &[body]))
     };
-    let listed = comparison.lines(&some.iter().map(list).collect::<Vec<_>>());
-    let mut builds = Vec::new();
-    for (k, line) in some.iter().zip(&listed) {
-        let (values, table) = done(line.as_ref()?)?;
-        let set = *values.get(2)?;
-        let room = vec![9; (4 * set.count_ones() as usize).saturating_sub(2)];
-        builds.push(Call::Build { n: bodies[*k].0, set, table, room });
-    }
+    let tables = listed(comparison, &some.iter().map(alone).collect::<Vec<_>>())?;
+    let builds: Vec<Call> = tables.iter().map(|listed| both_builds(listed)[0].clone()).collect();
     let built = written(comparison, &builds, 2)?;
     let house: Vec<Vec<u8>> = some.iter().map(|&k| house[k].clone()).collect();
     let note = "the tree that was listed is not the one that is built over the set that occurs";
@@ -137,6 +190,7 @@ fn around(comparison: &mut Comparison, inputs: &mut Inputs) -> Option<()> {
     let again = rendered(comparison, &with(&bodies, &read))?;
     alike(comparison, "the body in house order has another text", write, &again, &texts);
     built_again(comparison, &bodies, &house)?;
+    vetoed(comparison, inputs)?;
 
     // the texts of each set of groups, and the other way round
     let mut by_groups: BTreeMap<Vec<u64>, usize> = BTreeMap::new();

@@ -191,6 +191,17 @@ pub fn broken_rule(n: usize, body: &[u8]) -> Option<(usize, Fault)> {
     None
 }
 
+/// The table of what these trees say, all together.
+pub fn listed(n: usize, trees: &[Tree]) -> Vec<u8> {
+    let mut table = vec![0; choose(n, 3)];
+    for tree in trees {
+        for (byte, says) in table.iter_mut().zip(tree.table(n)) {
+            *byte |= says;
+        }
+    }
+    table
+}
+
 /// All rooted trees with exactly the species of the set, two or more children at each inner node.
 pub fn all_trees(set: u64) -> Vec<Tree> {
     if set.count_ones() == 1 {

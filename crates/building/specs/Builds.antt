@@ -1,9 +1,10 @@
 -- Building the tree of a set of species, of a table. Document 01, "Numbers handed back"; request T-03.
+use mathlib.Core.Bool.{Bool, false}
 use mathlib.Core.List.{List, [], _∷_, _++_}
 use Prim.Native.Nat.{ℕ}
 use lib.ListN.{length}
 use Rattle.sets.specs.Sets.{has, number, size}
-use Rattle.trees.specs.Build.{Outcome, tree, stop, build}
+use Rattle.trees.specs.Build.{Outcome, tree, stop, buildBy}
 use Rattle.tables.specs.Bytes.{entered}
 use Rattle.bodies.specs.Nodes.{roomFor}
 use Rattle.bodies.specs.Draws.{nodeCount, bodyOf, written}
@@ -18,9 +19,12 @@ use Rattle.building.specs.GoodSet.{lookOutside, lookSet}
 use Rattle.building.specs.declared.Answer.{Answer}
 use Rattle.building.specs.declared.Answer.the-variants.{Done, Refused}
 
--- request T-03: "the build takes such a set"; it is s, of n species, and t the table
-unfoldable pub outcome : ℕ → ℕ → List ℕ → Outcome
-outcome n s t = build (entered t) n (has s)
+-- what the plain build (false) or the veto build (true) comes to. Request T-03: "the build takes such a set"; it is s, of n species, and t the table
+unfoldable pub outcomeBy : Bool → ℕ → ℕ → List ℕ → Outcome
+outcomeBy v n s t = buildBy v (entered t) n (has s)
+
+abbrev pub outcome : ℕ → ℕ → List ℕ → Outcome
+outcome n s t = outcomeBy false n s t
 
 -- 10: "no tree exists", with "the stopping set"
 abbrev pub lookOutcome : Outcome → Look

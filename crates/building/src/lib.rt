@@ -1,16 +1,18 @@
-// Building the tree of a set of species that holds every entered triplet, or the set that shows why there is none.
+// Building the tree of a set of species that holds every entered triplet, or the set that shows why there is none; and the veto build, which always gives a tree.
 ghost use mathlib.Core.Path.{_≡_};
+ghost use mathlib.Core.Bool.{true};
 ghost use mathlib.Core.List.{[]};
 ghost use Prim.Native.Nat.{_+_, _*_, _<_, _≤_};
 ghost use lib.ListN.{length};
 ghost use lib.Seq.{paste};
 ghost use Rattle.sets.specs.Sets.{has, size};
-ghost use Rattle.trees.specs.Build.{build};
+ghost use Rattle.trees.specs.Build.{buildBy, ending};
 ghost use Rattle.tables.specs.Bytes.{entered};
 ghost use Rattle.bodies.specs.Nodes.{roomFor, mostNodes, longest};
 ghost use Rattle.answers.specs.Looks.{firstRefusal};
 ghost use Rattle.building.specs.Builds.{inputLooks, Raises, Builds};
-ghost use Rattle.building.specs.Grows.{Grows};
+ghost use Rattle.building.specs.Vetoes.{Vetoes};
+ghost use Rattle.building.specs.Grows.{Grows, Stands};
 ghost use Rattle.building.specs.Waiting.{SameFrom};
 ghost use Rattle.building.specs.GoodSet.{badSet};
 
@@ -37,9 +39,27 @@ fn lift(waiting: &mut [u64; 64], count: usize, gap: usize)
     }
 }
 
-// Builds a set that is not empty under `parent`, as node `at`. What waits to be built after it stands in `waiting` from place `free` on, and stays; before
-// that there is a place for each of its species, so that its parts have room.
+// Writes a node under `parent`, as node `at`, and behind it every species of the set as a leaf under that node, from the lowest up. The next node's number.
+fn spread(s: u64, room: &mut [u8], at: usize, parent: u8) -> usize
+    requires { ⌜ (1 < size s) × (at + 2 * size s ≤ mostNodes + 1) × (length (now room) ≡ longest) ⌝ }
+    ensures { λ r. ⌜ Stands (ending true 64 (has s)) (size s) parent at (now (room .entry)) (now (room .exit)) r ⌝ }
+{
+    bodies::put_node(room, at, parent, bodies::NONE);
+    let mut next = at + 1;
+    let mut left = s;
+    while left != 0 {
+        bodies::put_node(room, next, at as u8, sets::lowest(left) as u8);
+        next += 1;
+        left = sets::rest(left);
+    }
+    next
+}
+
+// Builds a set that is not empty under `parent`, as node `at`: the plain build, which stops where the links of a set join it all, or the veto build, which
+// spreads such a set. What waits to be built after it stands in `waiting` from place `free` on, and stays; before that there is a place for each of its
+// species, so that its parts have room.
 fn grow(
+    veto: bool,
     t: &[u8],
     s: u64,
     waiting: &mut [u64; 64],
@@ -51,7 +71,7 @@ fn grow(
     requires { ⌜ (0 < size s) × (size s ≤ free) × (free ≤ 64) × (length (now waiting) ≡ 64) × (at + 2 * size s ≤ mostNodes + 1) × (length (now room) ≡ longest) ⌝ }
     ensures { λ _. ⌜ SameFrom free (now (waiting .entry)) (now (waiting .exit)) ⌝ }
     ensures { λ _. ⌜ length (now (room .exit)) ≡ longest ⌝ }
-    ensures { λ r. ⌜ Grows (build (entered (now (t .entry))) 64 (has s)) (size s) parent at (now (room .entry)) (now (room .exit)) r ⌝ }
+    ensures { λ r. ⌜ Grows (buildBy veto (entered (now (t .entry))) 64 (has s)) (size s) parent at (now (room .entry)) (now (room .exit)) r ⌝ }
 {
     if sets::size(s) == 1 {
         bodies::put_node(room, at, parent, sets::lowest(s) as u8);
@@ -59,6 +79,9 @@ fn grow(
     }
     let count = splitting::split(t, s, waiting);
     if count == 1 {
+        if veto {
+            return Branch::Next(spread(s, room, at, parent));
+        }
         return Branch::Stopped(s);
     }
     bodies::put_node(room, at, parent, bodies::NONE);
@@ -68,7 +91,7 @@ fn grow(
     let mut k = 0;
     while k < count {
         let p = waiting[gap + k];
-        let r = grow(t, p, waiting, gap + k + 1, room, next, at as u8);
+        let r = grow(veto, t, p, waiting, gap + k + 1, room, next, at as u8);
         match r {
             Branch::Next(m) => {
                 next = m;
@@ -82,14 +105,14 @@ fn grow(
     Branch::Next(next)
 }
 
-// Builds any set that is not empty: into a room of its own first, since a refusal must leave the lent one as it was.
-fn raise(t: &[u8], s: u64, room: &mut [u8]) -> Answer
+// Builds any set that is not empty, by either build: into a room of its own first, since a refusal must leave the lent one as it was.
+fn raise(veto: bool, t: &[u8], s: u64, room: &mut [u8]) -> Answer
     requires { ⌜ (0 < size s) × (roomFor (size s) ≤ length (now room)) ⌝ }
-    ensures { λ r. ⌜ Raises (build (entered (now (t .entry))) 64 (has s)) [] (now (room .entry)) r (now (room .exit)) ⌝ }
+    ensures { λ r. ⌜ Raises (buildBy veto (entered (now (t .entry))) 64 (has s)) [] (now (room .entry)) r (now (room .exit)) ⌝ }
 {
     let mut draft = [0; bodies::LONGEST];
     let mut waiting = [0; 64];
-    let r = grow(t, s, &mut waiting, 64, &mut draft, 0, bodies::NONE);
+    let r = grow(veto, t, s, &mut waiting, 64, &mut draft, 0, bodies::NONE);
     match r {
         Branch::Next(m) => {
             bodies::copy(&draft, m, room);
@@ -144,7 +167,18 @@ pub fn build(n: usize, set: u64, t: &[u8], room: &mut [u8]) -> Answer
 {
     let look = look_input(n, set, t, room.len());
     match look {
-        answers::Look::Pass => raise(t, set, room),
+        answers::Look::Pass => raise(false, t, set, room),
+        answers::Look::Refuse(x) => Answer::Refused(x),
+    }
+}
+
+// The veto build of a set of species, of a table of n species, to the front of the room: always a tree. A refusal leaves every byte as it was.
+pub fn veto(n: usize, set: u64, t: &[u8], room: &mut [u8]) -> Answer
+    ensures { λ r. ⌜ Vetoes n set (now (t .entry)) (now (room .entry)) r (now (room .exit)) ⌝ }
+{
+    let look = look_input(n, set, t, room.len());
+    match look {
+        answers::Look::Pass => raise(true, t, set, room),
         answers::Look::Refuse(x) => Answer::Refused(x),
     }
 }

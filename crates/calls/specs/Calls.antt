@@ -19,7 +19,7 @@ row n x y = record { known = true; numbers = n; first = x; second = y }
 abbrev pub unknown : Shape
 unknown = record { known = false; numbers = 0; first = 0; second = 0 }
 
--- the table of calls: r reads, l lists, e enters, o puts in house order, b builds, c checks, n reads a Newick text, w writes one
+-- the table of calls: r reads, l lists, e enters, o puts in house order, b builds, v makes the veto build, c checks, n reads a Newick text, w writes one
 unfoldable pub shape : ℕ → Shape
 shape k =
     cond (eqb k 114) (row 0 1 0) (
@@ -27,9 +27,10 @@ shape k =
     cond (eqb k 101) (row 1 3 1) (
     cond (eqb k 111) (row 1 1 1) (
     cond (eqb k 98) (row 2 1 1) (
+    cond (eqb k 118) (row 2 1 1) (
     cond (eqb k 99) (row 1 1 1) (
     cond (eqb k 110) (row 1 1 1) (
-    cond (eqb k 119) (row 1 1 1) unknown)))))))
+    cond (eqb k 119) (row 1 1 1) unknown))))))))
 
 -- the bytes t are the first m of the numbers ns, eight bytes each
 abbrev pub NumberBytes : ℕ → List ℕ → List ℕ → Type 0

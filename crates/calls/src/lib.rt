@@ -72,6 +72,7 @@ fn shape_of(byte: u8) -> Shape
         b'e' => row(1, 3, 1),
         b'o' => row(1, 1, 1),
         b'b' => row(2, 1, 1),
+        b'v' => row(2, 1, 1),
         b'c' => row(1, 1, 1),
         b'n' => row(1, 1, 1),
         b'w' => row(1, 1, 1),

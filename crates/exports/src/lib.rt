@@ -8,6 +8,7 @@ ghost use Rattle.entering.specs.Enters.{enterAnswer, enterAfter, enterTold};
 ghost use Rattle.triplets.specs.Spelled.{spelled};
 ghost use Rattle.ordering.specs.Orders.{orderAnswer, orderAfter, orderTold};
 ghost use Rattle.building.specs.Builds.{buildAnswer, buildAfter, buildTold};
+ghost use Rattle.building.specs.Vetoes.{vetoAnswer, vetoAfter};
 ghost use Rattle.parsing.specs.Parses.{parseAnswer, parseAfter, parseTold};
 ghost use Rattle.rendering.specs.Renders.{renderAnswer, renderAfter, renderTold};
 ghost use Rattle.checking.specs.Checks.{checkAnswer, checkTold};
@@ -141,6 +142,22 @@ pub extern "C" fn koodhaxil_build(
     ensures { λ _. ⌜ now (room .exit) ≡ buildAfter n set (now (t .entry)) (now (room .entry)) ⌝ }
 {
     let a = building::build(n, set, t, room);
+    lay(replies::build(a), values)
+}
+
+// Makes the veto build of a set of species, of the table t, to the front of the room. A refusal leaves every byte of the room as it was.
+#[no_mangle]
+pub extern "C" fn koodhaxil_veto(
+    n: usize,
+    set: u64,
+    t: &[u8],
+    room: &mut [u8],
+    values: &mut [usize],
+) -> usize
+    ensures { λ r. ⌜ Handed (buildTold (vetoAnswer n set (now (t .entry)) (length (now (room .entry))))) (now (values .entry)) r (now (values .exit)) ⌝ }
+    ensures { λ _. ⌜ now (room .exit) ≡ vetoAfter n set (now (t .entry)) (now (room .entry)) ⌝ }
+{
+    let a = building::veto(n, set, t, room);
     lay(replies::build(a), values)
 }
 

@@ -11,6 +11,7 @@ use Rattle.listing.specs.Lists.{listAnswer, listAfter}
 use Rattle.entering.specs.Enters.{enterAnswer, enterAfter, enterTold}
 use Rattle.ordering.specs.Orders.{orderAnswer, orderAfter, orderTold}
 use Rattle.building.specs.Builds.{buildAnswer, buildAfter, buildTold}
+use Rattle.building.specs.Vetoes.{vetoAnswer, vetoAfter}
 use Rattle.parsing.specs.Parses.{parseAfter, parseAnswer, parseTold}
 use Rattle.rendering.specs.Renders.{renderAfter, renderAnswer, renderTold}
 use Rattle.checking.specs.Checks.{checkAnswer, checkTold}
@@ -73,6 +74,9 @@ orderLine n body o = ended (toldText (orderTold (orderAnswer n body (length o)))
 
 unfoldable pub buildLine : ℕ → ℕ → List ℕ → List ℕ → List ℕ
 buildLine n s t o = ended (toldText (buildTold (buildAnswer n s t (length o))) ++ barred (buildAfter n s t o))
+
+unfoldable pub vetoLine : ℕ → ℕ → List ℕ → List ℕ → List ℕ
+vetoLine n s t o = ended (toldText (buildTold (vetoAnswer n s t (length o))) ++ barred (vetoAfter n s t o))
 
 unfoldable pub parseLine : ℕ → List ℕ → List ℕ → List ℕ
 parseLine n w o = ended (toldText (parseTold (parseAnswer n w (length o))) ++ barred (parseAfter n w o))

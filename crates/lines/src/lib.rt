@@ -9,12 +9,13 @@ ghost use Rattle.listing.specs.Lists.{listAfter};
 ghost use Rattle.entering.specs.Enters.{enterAfter};
 ghost use Rattle.ordering.specs.Orders.{orderAfter};
 ghost use Rattle.building.specs.Builds.{buildAfter};
+ghost use Rattle.building.specs.Vetoes.{vetoAfter};
 ghost use Rattle.parsing.specs.Parses.{parseAfter};
 ghost use Rattle.rendering.specs.Renders.{renderAfter};
 ghost use Rattle.replies.specs.Replied.{replied};
 ghost use Rattle.writing.specs.Texts.{ended};
 ghost use Rattle.writing.specs.Writes.{Writes};
-ghost use Rattle.lines.specs.Lines.{faultText, plainText, toldText, barred, readLine, listLine, enterLine, orderLine, buildLine, parseLine, renderLine, checkLine};
+ghost use Rattle.lines.specs.Lines.{faultText, plainText, toldText, barred, readLine, listLine, enterLine, orderLine, buildLine, vetoLine, parseLine, renderLine, checkLine};
 
 // Writes which rule is broken.
 fn put_fault(out: &mut [u8], at: usize, f: bodies::Fault) -> usize
@@ -141,6 +142,16 @@ pub fn build_line(out: &mut [u8], at: usize, n: usize, set: u64, t: &[u8], room:
     ensures { λ _. ⌜ now (room .exit) ≡ buildAfter n set (now (t .entry)) (now (room .entry)) ⌝ }
 {
     let a = building::build(n, set, t, room);
+    put_barred(out, at, replies::build(a), room)
+}
+
+// Makes the veto build of a set of species, of the table t, and writes the line of the call.
+pub fn veto_line(out: &mut [u8], at: usize, n: usize, set: u64, t: &[u8], room: &mut [u8]) -> usize
+    requires { ⌜ at + 4 * length (now room) + 100 ≤ length (now out) ⌝ }
+    ensures { λ r. ⌜ Writes (now (out .entry)) at (vetoLine n set (now (t .entry)) (now (room .entry))) (now (out .exit)) r ⌝ }
+    ensures { λ _. ⌜ now (room .exit) ≡ vetoAfter n set (now (t .entry)) (now (room .entry)) ⌝ }
+{
+    let a = building::veto(n, set, t, room);
     put_barred(out, at, replies::build(a), room)
 }
 

@@ -1,7 +1,7 @@
 -- Every look of an operation passes exactly where its input is good: each law is put together as the order is. Assumes nothing.
 use mathlib.Core.Bool.{Bool, So, _&&_, false, false≢true, not, true}
 use mathlib.Core.List.{List, [], _∷_, _++_}
-use mathlib.Core.Logic.{Iff·trans, _↔_, _⊎_, inl, inr, ⊎-elim}
+use mathlib.Core.Logic.{Iff·trans, _≢_, _↔_, _⊎_, inl, inr, ⊎-elim}
 use mathlib.Core.Path.{_∙_, _≡_, ap, refl, subst, sym}
 use Prim.Native.Nat.{_<_, _≤_, ℕ}
 use native.Mathlib.Omega.{arith}
@@ -47,7 +47,10 @@ use Rattle.parsing.proofs.Texts.{text-body, text-pass, textLooks}
 use Rattle.parsing.specs.Parses.{parseLooks, textBody}
 use Rattle.rendering.specs.Renders.{renderLooks}
 use Rattle.rendering.specs.Texts.{newickText}
+use Rattle.promises.specs.Operations.{Operations}
+use Rattle.promises.specs.Demand1.{Demand1}
 use Rattle.promises.specs.Together.{RefusesBadAlone}
+use Rattle.promises.specs.Veto.{NeverTen}
 use Rattle.promises.specs.Inputs.{Buildable, Checkable, Enterable, Listable, Orderable, Parsable, Renderable, Triplet}
 
 -- every look of l passes exactly where P is so
@@ -246,8 +249,21 @@ accepts L d = record {
   ordering = λ n b o. zero-good (L .order n b o .told) (firstRefusal (orderLooks n b (length o))) _ (d .ordering n b o .told-is) (order-pass n b o);
   building = λ n u t o. input-good (inputLooks n u t (length o)) (lookOutcome (outcome n u t) ∷ []) _ (build-input n u t (length o)) Ten
       (λ k q s. ⊎-elim (λ z. z) (λ z. absurd (not-input 10 refl k s z)) q) (ten (outcome n u t) _) (L .build n u t o .told) (d .building n u t o .told-is) (build-pass n u t o);
+  vetoing = λ n u t o. zero-good (L .veto n u t o .told) (firstRefusal (inputLooks n u t (length o))) _ (d .vetoing n u t o .told-is) (build-pass n u t o);
   checking = λ n t b. input-good (bothLooks n t b) (triplesLooks n t (treeOf b)) [] (check-input n t b) Eleven
       (λ k q s. ⊎-elim (λ z. z) (⊎-elim (λ z. absurd (not-input 11 refl k s z)) (λ z. absurd (not-input 12 refl k s z))) q) (eleven (ltb (firstDiffers n t (treeOf b)) (C n 3)) (ltb (firstUnsure n t (treeOf b)) (C n 3)) _ _) (L .check n t b) (d .checking n t b) (check-pass n t b);
   parsing = λ n w o. zero-good (L .parse n w o .told) (firstRefusal (parseLooks n w (length o))) _ (d .parsing n w o .told-is) (parse-pass n w o);
   rendering = λ n b o. zero-good (L .render n b o .told) (firstRefusal (renderLooks n b (length o))) _ (d .rendering n b o .told-is) (render-pass n b o);
 }
+
+-- looks at input alone answer no number of an outcome
+input-alone : (l : List Look) (vs : List Value) → Each Input l → (m : ℕ) → ofInput m ≡ false → lookTold (firstRefusal l) vs .number ≢ m
+input-alone l vs h m f = go (firstRefusal l) refl
+  where
+    go : (k : Look) → firstRefusal l ≡ k → lookTold k vs .number ≢ m
+    go Pass e z = not-input m f 0 refl z
+    go (Refuse x) e z = not-input m f (refusalTold x .number) (first-among Input l h x e) z
+
+-- so the veto build of any operations that keep demand 1 never answers 10
+pub vetoes-never-10 : (L : Operations) → Demand1 L → NeverTen (L .veto)
+vetoes-never-10 L d n u t o z = input-alone (inputLooks n u t (length o)) _ (build-input n u t (length o)) 10 refl (sym (ap (λ (r : Told). r .number) (d .vetoing n u t o .told-is)) ∙ z)

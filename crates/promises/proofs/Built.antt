@@ -18,23 +18,22 @@ use Rattle.trees.specs.Aho.{AhoTree}
 use Rattle.trees.specs.Build.{Outcome, build, stop, tree}
 use Rattle.trees.specs.Held.{HeldBy}
 use Rattle.trees.specs.Links.{JoinedByWalks}
-use Rattle.trees.specs.Trees.{Tree, inHouseOrder, under}
+use Rattle.trees.specs.Trees.{Tree, inHouseOrder}
 use Rattle.tables.proofs.Bytes.{entered-proper}
 use Rattle.tables.specs.Bytes.{entered}
-use Rattle.bodies.proofs.Back.{body-back, body-badLength, body-good, body-length, set-room}
 use Rattle.bodies.specs.Draws.{bodyOf, nodeCount, treeOf, written}
 use Rattle.answers.specs.Answers as Answers
 use Rattle.answers.specs.Answers.{node-count, told, value}
 use Rattle.answers.proofs.Answered.{first-on, then-nothing}
 use Rattle.answers.specs.Looks.{firstRefusal}
-use Rattle.building.proofs.Chosen.{set-below, set-small}
+use Rattle.building.proofs.Chosen.{set-below}
 use Rattle.building.proofs.Numbered.{not-empty}
-use Rattle.building.specs.Builds.{buildLooks, inputLooks, lookOutcome, outcome}
+use Rattle.building.specs.Builds.{buildLooks, inputLooks, lookOutcome, outcome, outcomeBy}
 use Rattle.promises.specs.Operations.{Given, builds, gives}
 use Rattle.promises.specs.Inputs.{Buildable}
 use Rattle.promises.specs.Demand2.{BuildsRight, front}
 use Rattle.promises.proofs.Accepted.{build-pass}
-use Rattle.promises.proofs.Wrote.{front-is, wrote}
+use Rattle.promises.proofs.Wrote.{tree-back, tree-housed, tree-wrote}
 
 module _ (n s : ℕ) (t o : List ℕ) (g : Buildable n s t o) where
   -- ---- what the build came to, and what is given back
@@ -51,30 +50,21 @@ module _ (n s : ℕ) (t o : List ℕ) (g : Buildable n s t o) where
   -- ---- a tree
 
   -- some species is in the set
-  abbrev some : (x : ℕ) × Has s x
+  abbrev pub some : (x : ℕ) × Has s x
   some = some-member s (not-empty s (g .set .some))
 
-  in-below : Below n (has s)
+  pub in-below : Below n (has s)
   in-below = set-below n s (g .set)
 
-  some-in : So (has s (some .0))
+  pub some-in : So (has s (some .0))
   some-in = true-has s (some .0) (some .1)
 
   module _ (T : Tree) (e : build (entered t) n (has s) ≡ tree T) where
     built : HeldBy (entered t) (has s) T × So (inHouseOrder T)
     built = built-tree (entered t) (entered-proper t) n (has s) in-below (some .0) some-in T e
 
-    built-below : Below n (under T)
-    built-below x h = in-below x (sym (built .0 .species x) ∙ h)
-
-    fits : length (bodyOf T) ≤ length o
-    fits = omega (arith, g .room, set-room n s (set-small n s (g .set)) T (built .0 .formed) (built .0 .species))
-
-    stands : front (nodeCount T) (written o (bodyOf T)) ≡ bodyOf T
-    stands = front-is n (nodeCount T) o (bodyOf T) (body-length T) fits
-
     back : treeOf (front (nodeCount T) (written o (bodyOf T))) ≡ T
-    back = ap treeOf stands ∙ body-back n T (built .0 .formed) built-below (g .count .most)
+    back = tree-back n s t o g T (built .0 .formed) (built .0 .species)
 
     tree-built : BuildsRight (entered t) n (has s) o (gives (told 0 (value node-count (nodeCount T) ∷ [])) (written o (bodyOf T)))
     tree-built = record {
@@ -82,13 +72,10 @@ module _ (n s : ℕ) (t o : List ℕ) (g : Buildable n s t o) where
       keeps = λ z. record {
         count = nodeCount T;
         told-is = refl;
-        wrote = wrote n (nodeCount T) o (bodyOf T) (body-length T) fits (record {
-          good = body-good n T (built .0 .formed) built-below (g .count .most);
-          long = body-badLength n T (built .0 .formed) built-below (g .count .most);
-        });
+        wrote = tree-wrote n s t o g T (built .0 .formed) (built .0 .species);
         held = subst (λ (u : Tree). HeldBy (entered t) (has s) u) (sym back) (built .0);
         aho = subst (λ (u : Tree). AhoTree (entered t) u) (sym back) (built-aho (entered t) (entered-proper t) n (has s) in-below (some .0) some-in T e);
-        housed = record { preorder = stands ∙ ap bodyOf (sym back); children = subst (λ (u : Tree). So (inHouseOrder u)) (sym back) (built .1) };
+        housed = tree-housed n s t o g T (built .0 .formed) (built .0 .species) (built .1);
       };
       refuses = ((λ z. absurd (omega (arith, z))), λ no. absurd (no (T, built .0)));
       shows = λ z. absurd (omega (arith, z));
@@ -130,7 +117,7 @@ module _ (n s : ℕ) (t o : List ℕ) (g : Buildable n s t o) where
     }
 
   pub good-built : BuildsRight (entered t) n (has s) o (builds n s t o)
-  unfolding outcome
+  unfolding outcomeBy
   good-built = go (build (entered t) n (has s)) refl
     where
       go : (r : Outcome) → build (entered t) n (has s) ≡ r → BuildsRight (entered t) n (has s) o (builds n s t o)

@@ -9,7 +9,7 @@ use native.Mathlib.Omega.{arith}
 use lib.Dec.{ltb}
 use lib.ListN.{getD, length}
 use Rattle.sets.specs.Sets.{has, size}
-use Rattle.trees.specs.Build.{Outcome, build}
+use Rattle.trees.specs.Build.{Outcome, buildBy}
 use Rattle.trees.specs.Check.{differs, unsure}
 use Rattle.trees.specs.Triplets.{Triplets, different}
 use Rattle.tables.proofs.Limits.{small-exactly}
@@ -27,14 +27,14 @@ use Rattle.answers.specs.declared.Look.{Look}
 use Rattle.answers.specs.declared.Look.the-variants.{Pass, Refuse}
 use Rattle.answers.specs.declared.Refusal.the-variants.{Contradicted, Unforced}
 use Rattle.building.proofs.Chosen.{outside-pass}
-use Rattle.building.specs.Builds.{buildDone, buildRoom, buildTold, lookOutcome, outcome}
+use Rattle.building.specs.Builds.{buildDone, buildRoom, buildTold, lookOutcome, outcomeBy}
 use Rattle.building.specs.GoodSet.{lookOutside, lookSet}
 use Rattle.building.specs.declared.Answer as Building
 use Rattle.checking.specs.Checks.{checkTold, firstDiffers, firstUnsure, lookPI, triplesLooks}
 use Rattle.checking.specs.declared.Answer.{Answer}
 use Rattle.checking.specs.declared.Answer.the-variants.{Passes, Refused}
 use Rattle.promises.specs.Fans.{FansApart, FansAside, SameVerdict}
-use Rattle.promises.specs.Operations.{Given, builds, checks, gives, koodhaxil}
+use Rattle.promises.specs.Operations.{Given, builds, checks, gives, koodhaxil, vetoes}
 
 bytes-pass : (t : List ℕ) → ((i : ℕ) → Small (getD t i 0)) → lookBytes t ≡ Pass
 bytes-pass t h = rw (small-exactly t .1 h) refl
@@ -50,22 +50,30 @@ module _ (t t′ : List ℕ) (f : FansApart t t′) where
   same-bytes = bytes-pass t (f .small) ∙ sym (bytes-pass t′ (f .small′))
 
   module _ (n s : ℕ) where
-    same-outcome : outcome n s t ≡ outcome n s t′
-    unfolding outcome
-    same-outcome = ap (λ (E : Triplets). build E n (has s)) same-entered
+    same-outcome : (v : Bool) → outcomeBy v n s t ≡ outcomeBy v n s t′
+    unfolding outcomeBy
+    same-outcome v = ap (λ (E : Triplets). buildBy v E n (has s)) same-entered
 
-    module _ (o : List ℕ) where
+    -- either build, with its looks at the outcome behind those at the input
+    module _ (v : Bool) (last : Outcome → List Look) (o : List ℕ) where
       abbrev looks : ℕ → Look → Look → Outcome → List Look
-      looks l k w R = (lookCount n ∷ lookTable n l ∷ k ∷ lookSet n s ∷ w ∷ lookRoom (roomFor (size s)) (length o) ∷ []) ++ (lookOutcome R ∷ [])
+      looks l k w R = (lookCount n ∷ lookTable n l ∷ k ∷ lookSet n s ∷ w ∷ lookRoom (roomFor (size s)) (length o) ∷ []) ++ last R
 
       -- what is given where the table has l bytes, the looks at its bytes and outside the set come to k and w, and the outcome is R
       abbrev given : ℕ → Look → Look → Outcome → Given
       given l k w R = gives (buildTold (answered Building.the-variants.Done Building.the-variants.Refused (firstRefusal (looks l k w R)) (buildDone R))) (after (firstRefusal (looks l k w R)) (buildRoom R o) o)
 
-      same-built : Enclosed n s t → Enclosed n s t′ → builds n s t o ≡ builds n s t′ o
-      same-built e e′ =
-          ap₂ (λ (l : ℕ) (k : Look). given l k (lookOutside n s t) (outcome n s t)) (f .long) same-bytes
-          ∙ ap₂ (given (length t′) (lookBytes t′)) (outside-pass n s t .1 e ∙ sym (outside-pass n s t′ .1 e′)) same-outcome
+      same-given : Enclosed n s t → Enclosed n s t′ → given (length t) (lookBytes t) (lookOutside n s t) (outcomeBy v n s t) ≡ given (length t′) (lookBytes t′) (lookOutside n s t′) (outcomeBy v n s t′)
+      same-given e e′ =
+          ap₂ (λ (l : ℕ) (k : Look). given l k (lookOutside n s t) (outcomeBy v n s t)) (f .long) same-bytes
+          ∙ ap₂ (given (length t′) (lookBytes t′)) (outside-pass n s t .1 e ∙ sym (outside-pass n s t′ .1 e′)) (same-outcome v)
+
+    same-built : (o : List ℕ) → Enclosed n s t → Enclosed n s t′ → builds n s t o ≡ builds n s t′ o
+    same-built o e e′ = same-given false (λ R. lookOutcome R ∷ []) o e e′
+
+    -- the veto build looks at no outcome
+    same-vetoed : (o : List ℕ) → Enclosed n s t → Enclosed n s t′ → vetoes n s t o ≡ vetoes n s t′ o
+    same-vetoed o e e′ = same-given true (λ R. []) o e e′
 
   module _ (n : ℕ) (b : List ℕ) where
     abbrev front : List ℕ → List Look
@@ -107,5 +115,6 @@ module _ (t t′ : List ℕ) (f : FansApart t t′) where
 pub fans-aside : FansAside koodhaxil
 fans-aside = record {
   building = λ n s t t′ o f e e′. same-built t t′ f n s o e e′;
+  vetoing = λ n s t t′ o f e e′. same-vetoed t t′ f n s o e e′;
   checking = λ n t t′ b f. same-checked t t′ f n b;
 }

@@ -17,7 +17,9 @@ pub mod Checked
 pub mod Star
 pub mod Useless
 pub mod UselessTexts
+pub mod UselessVetoes
 pub mod Runs
+pub mod Vetoed
 pub mod Own
 pub mod Occurring
 pub mod Fans

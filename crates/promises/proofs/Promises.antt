@@ -17,7 +17,8 @@ use Rattle.entering.specs.Enters.{enterLooks, enterTold, entry}
 use Rattle.ordering.specs.Orders.{orderLooks, orderTold}
 use Rattle.parsing.specs.Parses.{parseDone, parseLooks, parseTold}
 use Rattle.rendering.specs.Renders.{renderDone, renderLooks, renderTold}
-use Rattle.building.specs.Builds.{buildLooks, buildTold, nodesIn, outcome}
+use Rattle.building.specs.Builds.{buildDone, buildLooks, buildTold, inputLooks, outcome}
+use Rattle.building.specs.Vetoes.{vetoed}
 use Rattle.checking.specs.Checks.{checkLooks}
 use Rattle.promises.specs.Accepts.{Accepts}
 use Rattle.promises.specs.Operations.{koodhaxil}
@@ -44,7 +45,8 @@ demand1 = record {
   listing = λ b t. chosen readTold Reading.the-variants.Done Reading.the-variants.Refused (countsOf b) refl (λ x. refl) (listLooks b (length t)) _ t;
   entering = λ n rs t. chosen enterTold Entering.the-variants.Done Entering.the-variants.Refused (entry n rs) refl (λ x. refl) (enterLooks n rs (length t)) _ t;
   ordering = λ n b o. chosen orderTold Ordering.the-variants.Done Ordering.the-variants.Refused (record { nodes = nodes b .count }) refl (λ x. refl) (orderLooks n b (length o)) _ o;
-  building = λ n s t o. chosen buildTold Building.the-variants.Done Building.the-variants.Refused (record { nodes = nodesIn (outcome n s t) }) refl (λ x. refl) (buildLooks n s t (length o)) _ o;
+  building = λ n s t o. chosen buildTold Building.the-variants.Done Building.the-variants.Refused (buildDone (outcome n s t)) refl (λ x. refl) (buildLooks n s t (length o)) _ o;
+  vetoing = λ n s t o. chosen buildTold Building.the-variants.Done Building.the-variants.Refused (buildDone (vetoed n s t)) refl (λ x. refl) (inputLooks n s t (length o)) _ o;
   checking = λ n t b. check-told (firstRefusal (checkLooks n t b));
   parsing = λ n w o. chosen parseTold Parsing.the-variants.Done Parsing.the-variants.Refused (parseDone w) refl (λ x. refl) (parseLooks n w (length o)) _ o;
   rendering = λ n b o. chosen renderTold Rendering.the-variants.Done Rendering.the-variants.Refused (renderDone b) refl (λ x. refl) (renderLooks n b (length o)) _ o;

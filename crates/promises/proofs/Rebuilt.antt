@@ -24,15 +24,13 @@ use Rattle.tables.proofs.Known.{known-by-table}
 use Rattle.tables.specs.Bytes.{entered}
 use Rattle.tables.specs.Filled.{saidBy, tableFor}
 use Rattle.tables.specs.Index.{C}
-use Rattle.bodies.proofs.Back.{body-length, set-room}
 use Rattle.bodies.proofs.Drawn.{tree-below}
 use Rattle.bodies.proofs.Houses.{good-formed}
 use Rattle.bodies.proofs.Rules.{length-good}
 use Rattle.bodies.specs.Draws.{nodeCount, ordered, treeOf, written}
 use Rattle.bodies.specs.Nodes.{nodes, roomFor}
 use Rattle.outside.specs.Reaches.{Enclosed}
-use Rattle.building.proofs.Chosen.{set-small}
-use Rattle.building.specs.Builds.{outcome}
+use Rattle.building.specs.Builds.{outcome, outcomeBy}
 use Rattle.building.specs.GoodSet.{GoodSet}
 use Rattle.promises.specs.Operations.{Given, builds, lists}
 use Rattle.answers.specs.Inputs.{Count, Table}
@@ -41,9 +39,9 @@ use Rattle.promises.specs.Demand2.{front}
 use Rattle.promises.specs.Demand3.{Full, Returns, tableOf}
 use Rattle.promises.proofs.Alone.{alone-table}
 use Rattle.promises.proofs.Built.{builds-tree}
-use Rattle.promises.proofs.Ordered.{in-house, ordered-body, ordered-same}
+use Rattle.promises.proofs.Ordered.{in-house, ordered-same}
 use Rattle.promises.proofs.Tabled.{Speaks, table-enclosed, table-exact, table-good}
-use Rattle.promises.proofs.Wrote.{front-is, wrote}
+use Rattle.promises.proofs.Wrote.{tree-stands, tree-wrote}
 
 module _ (n s : ℕ) (b : List ℕ) (c : Count n) (f : Full n s b) where
   formed : So (wellFormed (treeOf b))
@@ -82,7 +80,7 @@ module _ (n s : ℕ) (b : List ℕ) (c : Count n) (f : Full n s b) where
       (λ x y z h. let o = fan-in (treeOf b) x y z h in (sym (f .every x) ∙ o .0, sym (f .every y) ∙ o .1, sym (f .every z) ∙ o .2))
 
   its-outcome : outcome n s its ≡ tree (house (treeOf b))
-  unfolding outcome
+  unfolding outcomeBy
   its-outcome = rebuild (entered its) (entered-proper its) n (has s) set-in (treeOf b) formed (f .every) (λ x y z _ _ _. its-exact x y z)
 
   pub its-buildable : (o : List ℕ) → roomFor (size s) ≤ length o → Buildable n s its o
@@ -92,19 +90,20 @@ module _ (n s : ℕ) (b : List ℕ) (c : Count n) (f : Full n s b) where
     abbrev count : ℕ
     count = nodeCount (house (treeOf b))
 
-    fits : length (ordered b) ≤ length o
-    fits =
-        let h = in-house n b c (f .body) in
-        omega (arith, room, set-room n s (set-small n s full-set) (house (treeOf b)) (h .formed) (λ x. h .species x ∙ f .every x))
+    formed-house : So (wellFormed (house (treeOf b)))
+    formed-house = in-house n b c (f .body) .formed
+
+    species-house : (x : ℕ) → under (house (treeOf b)) x ≡ has s x
+    species-house x = in-house n b c (f .body) .species x ∙ f .every x
 
     stands : front count (written o (ordered b)) ≡ ordered b
-    stands = front-is n count o (ordered b) (body-length (house (treeOf b))) fits
+    stands = tree-stands n s its o (its-buildable o room) (house (treeOf b)) formed-house species-house
 
     its-rebuilt : Returns n b o (builds n s its o)
     its-rebuilt = subst (λ (g : Given). Returns n b o g) (sym (builds-tree n s its o (its-buildable o room) (house (treeOf b)) its-outcome)) (record {
       count = count;
       told-is = refl;
-      wrote = wrote n count o (ordered b) (body-length (house (treeOf b))) fits (ordered-body n b c (f .body));
+      wrote = tree-wrote n s its o (its-buildable o room) (house (treeOf b)) formed-house species-house;
       body = stands;
       groups = subst (λ (u : List ℕ). SameGroups (treeOf u) (treeOf b)) (sym stands) (ordered-same n b c (f .body));
     })

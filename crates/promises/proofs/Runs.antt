@@ -9,7 +9,7 @@ use lib.ListN.{length, length-replicate}
 use Rattle.sets.proofs.Sizes.{size-upto}
 use Rattle.sets.specs.Sets.{digit, number, upto}
 use Rattle.sets.specs.Species.{Species, members}
-use Rattle.trees.specs.Build.{build, buildIn, stop, tree}
+use Rattle.trees.specs.Build.{buildBy, buildIn, stop, tree}
 use Rattle.trees.specs.Links.{leads, part, parts}
 use Rattle.trees.specs.Trees.{Tree, cons, leaf, nil, node}
 use Rattle.tables.proofs.Limits.{small-exactly}
@@ -27,7 +27,7 @@ use Rattle.answers.specs.Looks.{lookTold}
 use Rattle.answers.specs.declared.Look.{Look}
 use Rattle.answers.specs.declared.Look.the-variants.{Pass, Refuse}
 use Rattle.answers.specs.declared.Refusal.the-variants.{Contradicted, Unforced}
-use Rattle.building.specs.Builds.{outcome}
+use Rattle.building.specs.Builds.{outcome, outcomeBy}
 use Rattle.checking.specs.Checks.{firstDiffers, firstUnsure, triplesLooks}
 use Rattle.promises.specs.Operations.{builds, checks, gives}
 use Rattle.answers.specs.Inputs.{Count, Table}
@@ -44,8 +44,8 @@ module _ (n : ℕ) (t : List ℕ) (some : 0 < n) (most : n ≤ 64) (long : lengt
   table : Table n t
   table = record { long = long; small = small-exactly t .0 small }
 
-  good : Buildable n (upto n) t (room n)
-  good = record {
+  pub all-good : Buildable n (upto n) t (room n)
+  all-good = record {
     count = count;
     table = table;
     set = all-set n some;
@@ -54,10 +54,10 @@ module _ (n : ℕ) (t : List ℕ) (some : 0 < n) (most : n ≤ 64) (long : lengt
   }
 
   by-tree : (T : Tree) → outcome n (upto n) t ≡ tree T → builds n (upto n) t (room n) ≡ gives (told 0 (value node-count (nodeCount T) ∷ [])) (written (room n) (bodyOf T))
-  by-tree T e = builds-tree n (upto n) t (room n) good T e
+  by-tree T e = builds-tree n (upto n) t (room n) all-good T e
 
   by-stop : (U : Species) → outcome n (upto n) t ≡ stop U → builds n (upto n) t (room n) ≡ gives (told 10 (value stopping-set (number 64 U) ∷ [])) (room n)
-  by-stop U e = builds-stop n (upto n) t (room n) good U e
+  by-stop U e = builds-stop n (upto n) t (room n) all-good U e
 
   by-check : (b : List ℕ) → badLength (length b) ≡ false → Faults.fault 0 (nodes b) n ≡ Fine → (T : Tree) → treeOf b ≡ T → (k : Look) → Looks.firstRefusal (triplesLooks n t T) ≡ k → checks n t b ≡ lookTold k []
   by-check b l f T e k q = checks-tree n t b (record { count = count; table = table; body = record { good = no-fault 0 n (nodes b) .0 f; long = l } })
@@ -75,7 +75,7 @@ abbrev Fan : Tree
 Fan = node (cons (leaf 0) (cons (leaf 1) (cons (leaf 2) nil)))
 
 pub starred-given : CallsHold starred
-unfolding digit number members build buildIn leads part parts bitOf entered over placeOf firstDiffers firstUnsure at firstTriple firstFrom C highAt index largest lowAt midAt treeAt Faults.fault Faults.firstBreak Faults.seen children outcome
+unfolding digit number members buildBy buildIn leads part parts bitOf entered over placeOf firstDiffers firstUnsure at firstTriple firstFrom C highAt index largest lowAt midAt treeAt Faults.fault Faults.firstBreak Faults.seen children outcomeBy
 starred-given = (
   by-tree 1 [] (omega arith) (omega arith) refl refl (leaf 0) refl,
   (

@@ -10,7 +10,7 @@ use Rattle.parsing.specs.Parses.{parseTold}
 use Rattle.rendering.specs.Renders.{renderTold}
 use Rattle.building.specs.Builds.{buildTold}
 use Rattle.checking.specs.Checks.{checkTold}
-use Rattle.lines.specs.Lines.{buildLine, checkLine, enterLine, listLine, orderLine, parseLine, readLine, renderLine}
+use Rattle.lines.specs.Lines.{buildLine, checkLine, enterLine, listLine, orderLine, parseLine, readLine, renderLine, vetoLine}
 use Rattle.promises.specs.Operations.{koodhaxil}
 use Rattle.promises.specs.Linked.{Linked, Printed}
 use Rattle.promises.specs.Tied.{Tied}
@@ -28,6 +28,7 @@ tied = record {
   entering-named = λ M 𝓤 H A mem run κs a g r s. fact-mono 𝓤 _ _ (λ h. settled-gives enterTold h);
   ordering = λ M 𝓤 H A mem run κs a g r s. fact-mono 𝓤 _ _ (λ h. settled-gives orderTold h);
   building = λ M 𝓤 H A mem run κs a g r s. fact-mono 𝓤 _ _ (λ h. settled-gives buildTold h);
+  vetoing = λ M 𝓤 H A mem run κs a g r s. fact-mono 𝓤 _ _ (λ h. settled-gives buildTold h);
   checking = λ M 𝓤 H A mem run κs a g r s. fact-mono 𝓤 _ _ (λ h. ap checkTold h);
   parsing = λ M 𝓤 H A mem run κs a g r s. fact-mono 𝓤 _ _ (λ h. settled-gives parseTold h);
   rendering = λ M 𝓤 H A mem run κs a g r s. fact-mono 𝓤 _ _ (λ h. settled-gives renderTold h);
@@ -42,19 +43,21 @@ linked = record {
   entering = λ M 𝓤 H A mem run κs a g r s. both-say 𝓤 (λ h k. record { handed = h; left = k });
   ordering = λ M 𝓤 H A mem run κs a g r s. both-say 𝓤 (λ h k. record { handed = h; left = k });
   building = λ M 𝓤 H A mem run κs a g r s. both-say 𝓤 (λ h k. record { handed = h; left = k });
+  vetoing = λ M 𝓤 H A mem run κs a g r s. both-say 𝓤 (λ h k. record { handed = h; left = k });
   checking = λ M 𝓤 H A mem run κs a g r s. fact-mono 𝓤 _ _ (λ h. h);
   parsing = λ M 𝓤 H A mem run κs a g r s. both-say 𝓤 (λ h k. record { handed = h; left = k });
   rendering = λ M 𝓤 H A mem run κs a g r s. both-say 𝓤 (λ h k. record { handed = h; left = k });
 }
 
 pub printed : Printed koodhaxil
-unfolding readLine listLine enterLine orderLine buildLine checkLine parseLine renderLine
+unfolding readLine listLine enterLine orderLine buildLine vetoLine checkLine parseLine renderLine
 printed = record {
   reading = λ M 𝓤 H A mem run κs a g r s. fact-mono 𝓤 _ _ (λ h. h);
   listing = λ M 𝓤 H A mem run κs a g r s. both-say 𝓤 (λ h k. record { line = h; left = k });
   entering = λ M 𝓤 H A mem run κs a g r s. both-say 𝓤 (λ h k. record { line = h; left = k });
   ordering = λ M 𝓤 H A mem run κs a g r s. both-say 𝓤 (λ h k. record { line = h; left = k });
   building = λ M 𝓤 H A mem run κs a g r s. both-say 𝓤 (λ h k. record { line = h; left = k });
+  vetoing = λ M 𝓤 H A mem run κs a g r s. both-say 𝓤 (λ h k. record { line = h; left = k });
   checking = λ M 𝓤 H A mem run κs a g r s. fact-mono 𝓤 _ _ (λ h. h);
   parsing = λ M 𝓤 H A mem run κs a g r s. both-say 𝓤 (λ h k. record { line = h; left = k });
   rendering = λ M 𝓤 H A mem run κs a g r s. both-say 𝓤 (λ h k. record { line = h; left = k });

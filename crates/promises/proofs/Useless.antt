@@ -19,16 +19,14 @@ use Rattle.sets.specs.Species.{Below, Species, below, members}
 use Rattle.trees.proofs.Groups.{same-holds}
 use Rattle.trees.proofs.Theorems.{aho-one, built-tree}
 use Rattle.trees.specs.Aho.{AhoTree}
-use Rattle.trees.specs.Build.{build, buildIn, tree}
+use Rattle.trees.specs.Build.{build, buildBy, buildIn, tree}
 use Rattle.trees.specs.Held.{CanBeHeld, HeldBy}
 use Rattle.trees.specs.Links.{Walk, leads, part, parts, stay, via}
-use Rattle.trees.specs.Trees.{SameGroups, Tree, cons, inHouseOrder, leaf, nil, node, under}
+use Rattle.trees.specs.Trees.{SameGroups, Tree, cons, inHouseOrder, leaf, nil, node}
 use Rattle.tables.proofs.Bytes.{entered-empty, entered-proper, entered-zeros}
-use Rattle.tables.proofs.Limits.{small-exactly}
 use Rattle.tables.specs.Bytes.{bitOf, entered, fanBit, over, placeOf}
 use Rattle.tables.specs.Filled.{bytesFrom, plain, tableFor}
 use Rattle.tables.specs.Index.{C, highAt, index, largest, lowAt, midAt}
-use Rattle.bodies.proofs.Back.{body-back, body-length, set-room}
 use Rattle.bodies.proofs.Rules.{no-fault}
 use Rattle.bodies.specs.Draws.{bodyOf, nodeCount, treeAt, treeOf, written}
 use Rattle.bodies.specs.Faults.{fault, firstBreak, seen}
@@ -40,10 +38,9 @@ use Rattle.collections.specs.Collection.{Collection}
 use Rattle.collections.specs.Layout.{start}
 use Rattle.collections.specs.Reads.{looksFrom, readLooks}
 use Rattle.listing.specs.Lists.{saidUpTo}
-use Rattle.building.proofs.Chosen.{set-below, set-small}
 use Rattle.building.proofs.Numbered.{not-empty}
-use Rattle.building.specs.Builds.{outcome}
-use Rattle.promises.specs.Operations.{Given, builds, checks, gives, lists}
+use Rattle.building.specs.Builds.{outcome, outcomeBy}
+use Rattle.promises.specs.Operations.{Builder, Given, builds, checks, gives, lists}
 use Rattle.promises.specs.Inputs.{Buildable, Listable}
 use Rattle.promises.specs.Demand2.{ChecksRight, FirstTriple, Keeps, front}
 use Rattle.promises.specs.Demand3.{Full, tableOf}
@@ -54,11 +51,10 @@ use Rattle.promises.proofs.Built.{builds-tree, good-built}
 use Rattle.promises.proofs.Checked.{good-checked}
 use Rattle.promises.proofs.Chosen.{value-is}
 use Rattle.promises.proofs.Listed.{lists-is}
-use Rattle.promises.proofs.Runs.{starred-given}
-use Rattle.promises.proofs.Everyone.{all-enclosed, all-set}
+use Rattle.promises.proofs.Runs.{all-good, starred-given}
 use Rattle.promises.proofs.Rebuilt.{its-buildable}
 use Rattle.promises.proofs.Star.{star-sound, star-species}
-use Rattle.promises.proofs.Wrote.{front-is}
+use Rattle.promises.proofs.Wrote.{tree-back}
 
 -- ---- one species, its empty table, and room for the leaf
 
@@ -67,13 +63,7 @@ two-bytes = 0 ∷ 0 ∷ []
 
 one-good : Buildable 1 1 [] two-bytes
 unfolding C over
-one-good = record {
-  count = record { some = omega arith; most = omega arith };
-  table = record { long = refl; small = small-exactly [] .0 refl };
-  set = all-set 1 (omega arith);
-  enclosed = all-enclosed 1 [];
-  room = omega (arith, size-upto 1);
-}
+one-good = all-good 1 [] (omega arith) (omega arith) refl refl
 
 -- the lone leaf holds all that is entered
 lone : CanBeHeld (entered []) (has 1)
@@ -137,7 +127,7 @@ zero-on g h = go (eqb (g .told .number) 0) refl
     go false e z = absurd (eqb-false (g .told .number) 0 e z)
 
 lone-built : outcome 1 1 [] ≡ tree (leaf 0)
-unfolding outcome build buildIn members part leads parts entered placeOf bitOf index C digit
+unfolding outcomeBy buildBy buildIn members part leads parts entered placeOf bitOf index C digit
 lone-built = refl
 
 pub tells99-invents : Invents tells99
@@ -163,10 +153,10 @@ tells99-breaks = inventing-breaks tells99 tells99-invents
 three : Count 3
 three = record { some = omega arith; most = omega arith }
 
-abbrev ten-bytes : List ℕ
+abbrev pub ten-bytes : List ℕ
 ten-bytes = 0 ∷ 0 ∷ 0 ∷ 0 ∷ 0 ∷ 0 ∷ 0 ∷ 0 ∷ 0 ∷ 0 ∷ []
 
-abbrev unsaid : List ℕ
+abbrev pub unsaid : List ℕ
 unsaid = 0 ∷ []
 
 -- all three
@@ -174,22 +164,22 @@ three-below : Below 3 (has 7)
 three-below x h = ltb-true x 3 (sym (ap (λ (S : Species). S x) (has-upto 3)) ∙ h)
 
 module _ (t : List ℕ) (T : Tree) (e : build (entered t) 3 (has 7) ≡ tree T) where
-  three-built : HeldBy (entered t) (has 7) T × So (inHouseOrder T)
+  pub three-built : HeldBy (entered t) (has 7) T × So (inHouseOrder T)
   three-built = built-tree (entered t) (entered-proper t) 3 (has 7) three-below 0 (ap (λ (S : Species). S 0) (has-upto 3)) T e
 
-fan-built : build (entered unsaid) 3 (has 7) ≡ tree (treeOf fanBody)
-unfolding build buildIn members part leads parts entered placeOf bitOf index C digit children treeAt
+pub fan-built : build (entered unsaid) 3 (has 7) ≡ tree (treeOf fanBody)
+unfolding buildBy buildIn members part leads parts entered placeOf bitOf index C digit children treeAt
 fan-built = refl
 
-cherry-built : build (entered (1 ∷ [])) 3 (has 7) ≡ tree (treeOf cherryBody)
-unfolding build buildIn members part leads parts entered placeOf bitOf index C digit children treeAt
+pub cherry-built : build (entered (1 ∷ [])) 3 (has 7) ≡ tree (treeOf cherryBody)
+unfolding buildBy buildIn members part leads parts entered placeOf bitOf index C digit children treeAt
 cherry-built = refl
 
 fan-full : Full 3 7 fanBody
 unfolding fault firstBreak seen children
 fan-full = record { body = record { good = no-fault 0 3 (nodes fanBody) .0 refl; long = refl }; every = three-built unsaid (treeOf fanBody) fan-built .0 .species }
 
-cherry-full : Full 3 7 cherryBody
+pub cherry-full : Full 3 7 cherryBody
 unfolding fault firstBreak seen children
 cherry-full = record { body = record { good = no-fault 0 3 (nodes cherryBody) .0 refl; long = refl }; every = three-built (1 ∷ []) (treeOf cherryBody) cherry-built .0 .species }
 
@@ -217,34 +207,27 @@ refusing-breaks-rebuilding f never d =
     let r = d .rebuilt 3 7 fanBody unsaid ten-bytes three fan-full refl (three-room ten-bytes (omega arith)) in
     never 3 7 _ ten-bytes (three-good fanBody fan-full) (ap (λ (x : Told). x .number) (r .told-is))
 
-pub starry-gives : Gives star starry
-starry-gives n s t o g k e =
+-- whatever builds where it does not
+pub starry-gives : (f : Builder) → Gives star (starry f)
+starry-gives f n s t o g k e =
     let T = star s in
     let small : s < 2 ^ 64 = lt-of-has 64 s (λ x h. omega (arith, g .set .below x h, g .count .most)) in
     let m = some-member s (not-empty s (g .set .some)) in
     let formed = star-sound 64 (has s) in
     let species = star-species 64 (has s) (has-below 64 s small) (m .0) (true-has s (m .0) (m .1)) in
-    let below : Below n (under T) = λ x h. set-below n s (g .set) x (sym (species x) ∙ h) in
-    let q = zero-on (builds n s t o) (gives (told 0 (value node-count (nodeCount T) ∷ [])) (written o (bodyOf T))) (ap (λ (x : Told). x .number) e) in
+    let q = zero-on (f n s t o) (gives (told 0 (value node-count (nodeCount T) ∷ [])) (written o (bodyOf T))) (ap (λ (x : Told). x .number) e) in
     let c = value-is k (nodeCount T) (sym e ∙ ap (λ (h : Given). h .told) q) in
     ap₂ (λ (j : ℕ) (u : List ℕ). treeOf (front j u)) c (ap (λ (h : Given). h .after) q)
-    ∙ ap treeOf (front-is n (nodeCount T) o (bodyOf T) (body-length T) (omega (arith, g .room, set-room n s (set-small n s (g .set)) T formed species)))
-    ∙ body-back n T formed below (g .count .most)
+    ∙ tree-back n s t o g T formed species
 
 pub starry-breaks : StarryBreaks
-starry-breaks = fixed-breaks starry star starry-gives
+starry-breaks = fixed-breaks (starry builds) star (starry-gives builds)
 
 -- ---- a gap that is closed: no source says anything of three species, and ((0,1),2) puts two of them together
 
-unsaid-good : Buildable 3 7 unsaid ten-bytes
+pub unsaid-good : Buildable 3 7 unsaid ten-bytes
 unfolding C over
-unsaid-good = record {
-  count = three;
-  table = record { long = refl; small = small-exactly unsaid .0 refl };
-  set = all-set 3 (omega arith);
-  enclosed = all-enclosed 3 unsaid;
-  room = three-room ten-bytes (omega arith);
-}
+unsaid-good = all-good 3 unsaid (omega arith) (omega arith) refl refl
 
 unsaid-empty : (a b c : ℕ) → So (entered unsaid a b c) → ⊥
 unsaid-empty a b c h = false≢true (sym (entered-zeros 1 a b c) ∙ h)

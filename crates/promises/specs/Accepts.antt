@@ -14,6 +14,7 @@ pub record Accepts (L : Operations) : Type 0 where
   pub entering : (n : ℕ) (rs : List (List ℕ)) (t : List ℕ) → (L .enter n rs t .told .number ≡ 0) ↔ Enterable n rs t
   pub ordering : (n : ℕ) (b o : List ℕ) → (L .order n b o .told .number ≡ 0) ↔ Orderable n b o
   pub building : (n s : ℕ) (t o : List ℕ) → ((L .build n s t o .told .number ≡ 0) ⊎ (L .build n s t o .told .number ≡ 10)) ↔ Buildable n s t o
+  pub vetoing : (n s : ℕ) (t o : List ℕ) → (L .veto n s t o .told .number ≡ 0) ↔ Buildable n s t o
   pub checking : (n : ℕ) (t b : List ℕ) → ((L .check n t b .number ≡ 0) ⊎ ((L .check n t b .number ≡ 11) ⊎ (L .check n t b .number ≡ 12))) ↔ Checkable n t b
   pub parsing : (n : ℕ) (w o : List ℕ) → (L .parse n w o .told .number ≡ 0) ↔ Parsable n w o
   pub rendering : (n : ℕ) (b o : List ℕ) → (L .render n b o .told .number ≡ 0) ↔ Renderable n b o

@@ -16,7 +16,8 @@ use Rattle.ordering.specs.Orders.{orderLooks}
 use Rattle.parsing.specs.Parses.{parseLooks, textBody}
 use Rattle.rendering.specs.Renders.{renderLooks}
 use Rattle.rendering.specs.Texts.{newickText}
-use Rattle.building.specs.Builds.{buildLooks, nodesIn, outcome}
+use Rattle.building.specs.Builds.{buildLooks, inputLooks, nodesIn, outcome}
+use Rattle.building.specs.Vetoes.{vetoed}
 use Rattle.checking.specs.Checks.{checkLooks}
 use Rattle.promises.specs.Operations.{Given, Operations}
 
@@ -32,6 +33,7 @@ pub record Demand1 (L : Operations) : Type 0 where
   pub entering : (n : ℕ) (rs : List (List ℕ)) (t : List ℕ) → Chosen (enterLooks n rs (length t)) (entryValues (entry n rs)) t (L .enter n rs t)
   pub ordering : (n : ℕ) (b o : List ℕ) → Chosen (orderLooks n b (length o)) (value node-count (nodes b .count) ∷ []) o (L .order n b o)
   pub building : (n s : ℕ) (t o : List ℕ) → Chosen (buildLooks n s t (length o)) (value node-count (nodesIn (outcome n s t)) ∷ []) o (L .build n s t o)
+  pub vetoing : (n s : ℕ) (t o : List ℕ) → Chosen (inputLooks n s t (length o)) (value node-count (nodesIn (vetoed n s t)) ∷ []) o (L .veto n s t o)
   pub checking : (n : ℕ) (t b : List ℕ) → L .check n t b ≡ lookTold (firstRefusal (checkLooks n t b)) []
   pub parsing : (n : ℕ) (w o : List ℕ) → Chosen (parseLooks n w (length o)) (value node-count (nodes (textBody w) .count) ∷ []) o (L .parse n w o)
   pub rendering : (n : ℕ) (b o : List ℕ) → Chosen (renderLooks n b (length o)) (value text-length (length (newickText b)) ∷ []) o (L .render n b o)

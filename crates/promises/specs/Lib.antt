@@ -7,8 +7,10 @@ pub mod Accepts
 pub mod Demand3
 pub mod Newick
 pub mod Together
+pub mod Veto
 pub mod Fans
 pub mod Useless
+pub mod UselessVetoes
 pub mod Tied
 pub mod Linked
 pub mod Forms

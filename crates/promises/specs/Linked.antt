@@ -12,6 +12,7 @@ use Rattle.lines.proofs.order_line as order-line
 use Rattle.lines.proofs.parse_line as parse-line
 use Rattle.lines.proofs.read_line as read-line
 use Rattle.lines.proofs.render_line as render-line
+use Rattle.lines.proofs.veto_line as veto-line
 use Rattle.lines.specs.Lines.{barred, toldText}
 use Rattle.exports.proofs.koodhaxil_build as c-build
 use Rattle.exports.proofs.koodhaxil_check as c-check
@@ -21,6 +22,7 @@ use Rattle.exports.proofs.koodhaxil_order as c-order
 use Rattle.exports.proofs.koodhaxil_parse as c-parse
 use Rattle.exports.proofs.koodhaxil_read as c-read
 use Rattle.exports.proofs.koodhaxil_render as c-render
+use Rattle.exports.proofs.koodhaxil_veto as c-veto
 use Rattle.triplets.specs.Spelled.{spelled}
 use Rattle.exports.specs.Codes.{Handed}
 use Rattle.promises.specs.Operations.{Given, Operations}
@@ -42,6 +44,8 @@ pub record Linked (L : Operations) : Type 2 where
       (λ κs a r s. Hands (L .order (a .0) (a .1 .0 .now) (a .1 .1 .0 .now)) (a .1 .1 .1 .0 .now) r (s .1 .1 .1 .0 .now) (s .1 .1 .0 .now))
   pub building : After c-build.ended (λ M. c-build.clauses)
       (λ κs a r s. Hands (L .build (a .0) (a .1 .0) (a .1 .1 .0 .now) (a .1 .1 .1 .0 .now)) (a .1 .1 .1 .1 .0 .now) r (s .1 .1 .1 .1 .0 .now) (s .1 .1 .1 .0 .now))
+  pub vetoing : After c-veto.ended (λ M. c-veto.clauses)
+      (λ κs a r s. Hands (L .veto (a .0) (a .1 .0) (a .1 .1 .0 .now) (a .1 .1 .1 .0 .now)) (a .1 .1 .1 .1 .0 .now) r (s .1 .1 .1 .1 .0 .now) (s .1 .1 .1 .0 .now))
   pub checking : After c-check.ended (λ M. c-check.clauses)
       (λ κs a r s. Handed (L .check (a .0) (a .1 .0 .now) (a .1 .1 .0 .now)) (a .1 .1 .1 .0 .now) r (s .1 .1 .1 .0 .now))
   pub parsing : After c-parse.ended (λ M. c-parse.clauses)
@@ -65,6 +69,8 @@ pub record Printed (L : Operations) : Type 2 where
       (λ κs a r s. Prints (L .order (a .1 .1 .0) (a .1 .1 .1 .0 .now) (a .1 .1 .1 .1 .0 .now)) (a .0 .now) (a .1 .0) (s .0 .now) r (s .1 .1 .1 .1 .0 .now))
   pub building : After build-line.ended (λ M. build-line.clauses)
       (λ κs a r s. Prints (L .build (a .1 .1 .0) (a .1 .1 .1 .0) (a .1 .1 .1 .1 .0 .now) (a .1 .1 .1 .1 .1 .0 .now)) (a .0 .now) (a .1 .0) (s .0 .now) r (s .1 .1 .1 .1 .1 .0 .now))
+  pub vetoing : After veto-line.ended (λ M. veto-line.clauses)
+      (λ κs a r s. Prints (L .veto (a .1 .1 .0) (a .1 .1 .1 .0) (a .1 .1 .1 .1 .0 .now) (a .1 .1 .1 .1 .1 .0 .now)) (a .0 .now) (a .1 .0) (s .0 .now) r (s .1 .1 .1 .1 .1 .0 .now))
   pub checking : After check-line.ended (λ M. check-line.clauses)
       (λ κs a r s. Writes (a .0 .now) (a .1 .0) (ended (toldText (L .check (a .1 .1 .0) (a .1 .1 .1 .0 .now) (a .1 .1 .1 .1 .0 .now)))) (s .0 .now) r)
   pub parsing : After parse-line.ended (λ M. parse-line.clauses)

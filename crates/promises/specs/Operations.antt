@@ -10,6 +10,7 @@ use Rattle.ordering.specs.Orders.{orderAfter, orderAnswer, orderTold}
 use Rattle.parsing.specs.Parses.{parseAfter, parseAnswer, parseTold}
 use Rattle.rendering.specs.Renders.{renderAfter, renderAnswer, renderTold}
 use Rattle.building.specs.Builds.{buildAfter, buildAnswer, buildTold}
+use Rattle.building.specs.Vetoes.{vetoAfter, vetoAnswer}
 use Rattle.checking.specs.Checks.{checkAnswer, checkTold}
 
 -- what a call gives back: document 01's number with its values, and what the lent memory holds afterwards
@@ -58,6 +59,7 @@ pub record Operations : Type 0 where
   pub enter : Enterer
   pub order : Orderer
   pub build : Builder
+  pub veto : Builder
   pub check : Checker
   pub parse : Parser
   pub render : Renderer
@@ -79,6 +81,9 @@ orders n b o = record { told = orderTold (orderAnswer n b (length o)); after = o
 abbrev pub builds : Builder
 builds n s t o = record { told = buildTold (buildAnswer n s t (length o)); after = buildAfter n s t o }
 
+abbrev pub vetoes : Builder
+vetoes n s t o = record { told = buildTold (vetoAnswer n s t (length o)); after = vetoAfter n s t o }
+
 abbrev pub checks : Checker
 checks n t b = checkTold (checkAnswer n t b)
 
@@ -89,4 +94,4 @@ abbrev pub renders : Renderer
 renders n b o = record { told = renderTold (renderAnswer n b (length o)); after = renderAfter n b o }
 
 abbrev pub koodhaxil : Operations
-koodhaxil = record { read = reads; list = lists; enter = enters; order = orders; build = builds; check = checks; parse = parses; render = renders }
+koodhaxil = record { read = reads; list = lists; enter = enters; order = orders; build = builds; veto = vetoes; check = checks; parse = parses; render = renders }

@@ -21,6 +21,7 @@ use Rattle.triplets.specs.Spelled.{spelled}
 use Rattle.ordering.proofs.order as order
 use Rattle.ordering.specs.Orders.{orderTold}
 use Rattle.building.proofs.build as build
+use Rattle.building.proofs.veto as veto
 use Rattle.building.specs.Builds.{buildTold}
 use Rattle.checking.proofs.check as check
 use Rattle.checking.specs.Checks.{checkTold}
@@ -46,6 +47,7 @@ pub record Tied (L : Operations) : Type 2 where
   pub entering-named : After enter-named.ended (λ M. enter-named.clauses) (λ κs a r s. gives (enterTold r) (s .1 .1 .0 .now) ≡ L .enter (a .0) (map spelled (a .1 .0 .now)) (a .1 .1 .0 .now))
   pub ordering : After order.ended (λ M. order.clauses) (λ κs a r s. gives (orderTold r) (s .1 .1 .0 .now) ≡ L .order (a .0) (a .1 .0 .now) (a .1 .1 .0 .now))
   pub building : After build.ended (λ M. build.clauses) (λ κs a r s. gives (buildTold r) (s .1 .1 .1 .0 .now) ≡ L .build (a .0) (a .1 .0) (a .1 .1 .0 .now) (a .1 .1 .1 .0 .now))
+  pub vetoing : After veto.ended (λ M. veto.clauses) (λ κs a r s. gives (buildTold r) (s .1 .1 .1 .0 .now) ≡ L .veto (a .0) (a .1 .0) (a .1 .1 .0 .now) (a .1 .1 .1 .0 .now))
   pub checking : After check.ended (λ M. check.clauses) (λ κs a r s. checkTold r ≡ L .check (a .0) (a .1 .0 .now) (a .1 .1 .0 .now))
   pub parsing : After parse.ended (λ M. parse.clauses) (λ κs a r s. gives (parseTold r) (s .1 .1 .0 .now) ≡ L .parse (a .0) (a .1 .0 .now) (a .1 .1 .0 .now))
   pub rendering : After render.ended (λ M. render.clauses) (λ κs a r s. gives (renderTold r) (s .1 .1 .0 .now) ≡ L .render (a .0) (a .1 .0 .now) (a .1 .1 .0 .now))

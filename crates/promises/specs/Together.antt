@@ -5,7 +5,7 @@ use mathlib.Core.Path.{_≡_}
 use Prim.Native.Nat.{ℕ}
 use Rattle.answers.specs.Answers.{node-count, occurring-set, species-count, told, tree-count, value}
 use Rattle.collections.specs.Layout.{species, trees}
-use Rattle.promises.specs.Operations.{Operations}
+use Rattle.promises.specs.Operations.{Builder, Checker, Operations}
 use Rattle.promises.specs.Accepts.{Accepts}
 use Rattle.promises.specs.Demand1.{Demand1}
 use Rattle.promises.specs.Demand2.{Demand2, front}
@@ -19,10 +19,14 @@ AllDemands L = Demand1 L × Demand2 L × Demand3 L
 abbrev pub RefusesBadAlone : Type 0
 RefusesBadAlone = (L : Operations) → Demand1 L → Accepts L
 
--- where the build answers 0 with m nodes, the check of their bytes against the same table answers 0 or 12
+-- where a build f answers 0 with m nodes, the check c of their bytes against the same table answers 0 or 12
+abbrev pub OwnChecked : Builder → Checker → Type 0
+OwnChecked f c = (n s m : ℕ) (t o : List ℕ) → f n s t o .told ≡ told 0 (value node-count m ∷ [])
+    → (c n t (front m (f n s t o .after)) .number ≡ 0) ⊎ (c n t (front m (f n s t o .after)) .number ≡ 12)
+
+-- of the plain build
 abbrev pub BuiltChecked : Operations → Type 0
-BuiltChecked L = (n s m : ℕ) (t o : List ℕ) → L .build n s t o .told ≡ told 0 (value node-count m ∷ [])
-    → (L .check n t (front m (L .build n s t o .after)) .number ≡ 0) ⊎ (L .check n t (front m (L .build n s t o .after)) .number ≡ 12)
+BuiltChecked L = OwnChecked (L .build) (L .check)
 
 -- a set u with a table t of n species is one that the build takes: 15 comes only where the set is empty, and 16 never
 pub record Taken (L : Operations) (n u : ℕ) (t : List ℕ) : Type 0 where

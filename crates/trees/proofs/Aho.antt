@@ -1,8 +1,8 @@
--- Aho's tree and the build. What the build gives is Aho's tree: each child is a part, and walks join a part. Aho's tree in house order is what the
--- build gives: the parts are its children. Assumes nothing.
-use mathlib.Core.Bool.{So, _||_, false≢true, not}
+-- Aho's tree and the builds. What the plain build gives is Aho's tree: each child is a part, and walks join a part. Aho's tree in house order is what
+-- either build gives: the parts are its children. Both are said over any rule of trees that goes from node to node. Assumes nothing.
+use mathlib.Core.Bool.{Bool, So, _||_, false, false≢true, not}
 use mathlib.Core.List.{List, [], _∷_, map}
-use mathlib.Core.Logic.{⊎-elim}
+use mathlib.Core.Logic.{_⊎_, inl, ⊎-elim}
 use mathlib.Core.Path.{_∙_, _≡_, ap, ap₂, fun-ext, refl, subst, sym}
 use Prim.Native.Nat.{_+_, _<_, _≤_, suc, zero, ℕ}
 use native.Mathlib.Omega.{arith}
@@ -18,17 +18,22 @@ use Rattle.trees.proofs.Kids.{EveryF, Kid, Omits, child-every, child-in
 use Rattle.trees.proofs.Lowest.{Housed, HousedF, some-species}
 use Rattle.trees.proofs.Outcomes.{choose-tree, length-lone, many, next-tree}
 use Rattle.trees.proofs.Parts.{leads-i, leads-in, leads-lowest, part-closed, part-in, part-refl, part-sym, part-trans, parts-every}
+use Rattle.trees.proofs.Stopping.{fewer}
 use Rattle.trees.specs.Aho.{AhoForest, AhoTree, Parted}
-use Rattle.trees.specs.Build.{Outcome, build, buildIn, gather, tree, trees}
+use Rattle.trees.specs.Build.{Outcome, build, buildBy, buildIn, ending, gather, tree, trees}
 use Rattle.trees.specs.Links.{joined, leads, lone, part, parts}
 use Rattle.trees.specs.Trees.{Child, Forest, Tree, cons, degree, leaf, nil, node, under, underF}
 use Rattle.trees.specs.Triplets.{Proper, Triplets}
 
--- ---- what the build gives is Aho's tree
+-- ---- what the plain build gives is Aho's tree
 
 aho-forest : (E : Triplets) (f : Forest) → EveryF (AhoTree E) f → AhoForest E f
 aho-forest E nil h = tt
 aho-forest E (cons t f) h = (h .0, aho-forest E f (h .1))
+
+aho-every : (E : Triplets) (f : Forest) → AhoForest E f → EveryF (AhoTree E) f
+aho-every E nil h = tt
+aho-every E (cons t f) h = (h .0, aho-every E f (h .1))
 
 -- what is so of each part's tree is so of each child
 gather-trees : (g : Species → Outcome) (Q : Tree → Type 0) (ps : List Species) → Every (λ p. (t : Tree) → g p ≡ tree t → Q t) ps
@@ -52,32 +57,45 @@ module _ (E : Triplets) (N : ℕ) (pr : Proper E) where
         (c .0, c .1, c .2, i .2 y ∙ follow E S (part E N S i.0) (part-closed E N S bd pr (i .0)) x y w (sym (i .2 x) ∙ c .2)),
   )
 
-  built-aho-in : (k : ℕ) (S : Species) → Below N S → (u : ℕ) → So (S u) → (t : Tree) → buildIn E N k S ≡ tree t → AhoTree E t
+-- What is so of a leaf, of the tree that a joined set ends in, and of a node whose group is not joined and whose children are its parts, where it is so of
+-- each child, is so of every tree that the build v gives.
+module _ (v : Bool) (E : Triplets) (N : ℕ) (pr : Proper E) (Q : Tree → Type 0) (at-leaf : (x : ℕ) → Q (leaf x))
+    (at-joined : (S : Species) → Below N S → So (joined E N S) → (t : Tree) → ending v N S ≡ tree t → Q t)
+    (at-node : (f : Forest) → Below N (underF f) → (u : ℕ) → So (underF f u) → So (not (joined E N (underF f))) → Parted E (underF f) f → EveryF Q f → Q (node f)) where
+  raised-in : (k : ℕ) (S : Species) → Below N S → (u : ℕ) → So (S u) → length (members N S) ≤ k → (t : Tree) → buildIn v E N k S ≡ tree t → Q t
   unfolding buildIn
-  built-aho-in zero S bd u hu t e = let z : _≡_ {A = ℕ} 0 1 = cc in absurd (omega arith)
-  built-aho-in (suc k) S bd u hu t e = ⊎-elim
-      (λ h. rw (h .1) tt)
+  raised-in zero S bd u hu le t e = absurd (omega (arith, members-one N S u (bd u hu) hu))
+  raised-in (suc k) S bd u hu le t e = ⊎-elim
+      (λ h. rw (h .1) (at-leaf (getD (members N S) 0 0)))
+      (⊎-elim
+      (λ h. at-joined S bd (h .1) t (h .2))
       (λ h.
       let f = h .2 .0 in
-      let sp : underF f ≡ S = fun-ext (λ x. built-in E N pr (suc k) S bd u hu (node f) (e ∙ ap tree (h .2 .2)) .species x) in
-      let q : EveryF (λ s. AhoTree E s × PartOf S s) f = gather-trees (λ p. buildIn E N k p) (λ s. AhoTree E s × PartOf S s) (parts E N S)
-      (parts-every E N S bd pr (λ p. (s : Tree) → buildIn E N k p ≡ tree s → AhoTree E s × PartOf S s)
+      let sp : underF f ≡ S = fun-ext (λ x. built-in v E N pr (suc k) S bd u hu le (node f) (e ∙ ap tree (h .2 .2)) .species x) in
+      let q : EveryF (λ s. Q s × PartOf E N pr S s) f = gather-trees (λ p. buildIn v E N k p) (λ s. Q s × PartOf E N pr S s) (parts E N S)
+      (parts-every E N S bd pr (λ p. (s : Tree) → buildIn v E N k p ≡ tree s → Q s × PartOf E N pr S s)
       (λ j hj lj s d.
       let bd′ : Below N (part E N S j) = λ x r. bd x (part-in E N S bd pr j x hj r) in
       let jj = part-refl E N S bd pr j in
-      (built-aho-in k (part E N S j) bd′ j jj s d, (j, hj, built-in E N pr k (part E N S j) bd′ j jj s d .species))))
+      let le′ : length (members N (part E N S j)) ≤ k = omega (arith, fewer E N pr S bd u hu j hj (h .1)) in
+      (raised-in k (part E N S j) bd′ j jj le′ s d, (j, hj, built-in v E N pr k (part E N S j) bd′ j jj le′ s d .species))))
       f (h .2 .1) in
-      rw (h .2 .2) (
-        subst (λ (P : Species). Parted E P f) (sym sp) (parted S bd f (λ x r. ap (λ (P : Species). P x) sp ∙ r) (everyF-map _ (PartOf S) (λ s r. r .1) f q)),
-        aho-forest E f (everyF-map _ (AhoTree E) (λ s r. r .0) f q),
-      ))
-      (choose-tree (lone (members N S)) (joined E N S) (getD (members N S) 0 0) S (gather (λ p. buildIn E N k p) (parts E N S)) t e)
+      let all : Inside S (underF f) = λ x r. ap (λ (P : Species). P x) sp ∙ r in
+      rw (h .2 .2) (at-node f (λ x r. bd x (ap (λ (P : Species). P x) (sym sp) ∙ r)) u (all u hu)
+      (subst (λ (P : Species). So (not (joined E N P))) (sym sp) (h .1))
+      (subst (λ (P : Species). Parted E P f) (sym sp) (parted E N pr S bd f all (everyF-map _ (PartOf E N pr S) (λ s r. r .1) f q)))
+      (everyF-map _ Q (λ s r. r .0) f q))))
+      (choose-tree (lone (members N S)) (joined E N S) (getD (members N S) 0 0) (ending v N S) (gather (λ p. buildIn v E N k p) (parts E N S)) t e)
 
+  pub raised : (S : Species) → Below N S → (u : ℕ) → So (S u) → (t : Tree) → buildBy v E N S ≡ tree t → Q t
+  unfolding buildBy
+  raised S bd u hu t e = raised-in N S bd u hu (members-bound N S) t e
+
+module _ (E : Triplets) (N : ℕ) (pr : Proper E) where
   pub built-is-aho : (S : Species) → Below N S → (u : ℕ) → So (S u) → (t : Tree) → build E N S ≡ tree t → AhoTree E t
-  unfolding build
-  built-is-aho S bd u hu t e = built-aho-in N S bd u hu t e
+  built-is-aho = raised false E N pr (AhoTree E) (λ x. tt) (λ S bd j t e. let z : _≡_ {A = ℕ} 0 1 = cc in absurd (omega arith)) (λ f bd u hu nj p q. (p, aho-forest E f q))
 
--- ---- Aho's tree in house order is what the build gives
+-- ---- Aho's tree in house order is what either build gives
 
 abbrev child-sets : Forest → List Species
 child-sets nil = []
@@ -91,7 +109,7 @@ child-sets-length : (f : Forest) → length (child-sets f) ≡ degree f
 child-sets-length nil = refl
 child-sets-length (cons t f) = ap suc (child-sets-length f)
 
-module _ (E : Triplets) (N : ℕ) (pr : Proper E) where
+module _ (v : Bool) (E : Triplets) (N : ℕ) (pr : Proper E) where
   module _ (F : Forest) (bd : Below N (underF F)) where
     abbrev Whole : Tree → Type 0
     Whole t = (x y : ℕ) → So (under t x) → part E N (underF F) x y ≡ under t y
@@ -140,69 +158,83 @@ module _ (E : Triplets) (N : ℕ) (pr : Proper E) where
     parts-children w h p = parts-from N 0 F w h (child-every Whole F (whole w p))
         (λ x q. q) (λ x q. omega arith) (λ x q. omega (arith, bd x q)) (λ j le q. leads-in E N (underF F) bd pr j q)
 
-  -- what the induction asks of a tree
-  record Given (k : ℕ) (t : Tree) : Type 0 where
-    bound : Below N (under t)
-    formed : Formed t
-    housed : Housed t
-    aho : AhoTree E t
-    levels : length (members N (under t)) ≤ k
-
-  children-given : (k : ℕ) (F : Forest) → Given (suc k) (node F) → (f : Forest) → HousedF f → AhoForest E f → EveryF (Kid F) f → EveryF (Omits F) f → EveryF (Given k) f
-  children-given k F g nil h a q o = tt
-  children-given k F g (cons t f) h a q o = (
-    record {
-      bound = λ x p. g .bound x (q .0 .inside x p);
-      formed = q .0 .formed;
-      housed = h .0;
-      aho = a .0;
-      levels = let r = o .0 in omega (
-        arith,
-        g .levels,
-        members-lt N (under t) (underF F) (q .0 .inside) (r .0) (g .bound (r .0) (r .1)) (r .2) (r .1),
-      );
-    },
-    children-given k F g f (h .2) (a .1) (q .1) (o .1),
-  )
-
   -- a step of the build with its tests known
-  build-node : (k : ℕ) (S : Species) (f : Forest) → So (not (lone (members N S))) → So (not (joined E N S)) → gather (λ p. buildIn E N k p) (parts E N S) ≡ trees f
-      → buildIn E N (suc k) S ≡ tree (node f)
+  build-node : (k : ℕ) (S : Species) (f : Forest) → So (not (lone (members N S))) → So (not (joined E N S)) → gather (λ p. buildIn v E N k p) (parts E N S) ≡ trees f
+      → buildIn v E N (suc k) S ≡ tree (node f)
   unfolding buildIn
   build-node k S f p q e = rw (not-true (lone (members N S)) p, not-true (joined E N S) q, e) refl
 
-  build-leaf : (k x : ℕ) → Given (suc k) (leaf x) → buildIn E N (suc k) (under (leaf x)) ≡ tree (leaf x)
+  build-joined : (k : ℕ) (S : Species) (t : Tree) → So (not (lone (members N S))) → So (joined E N S) → ending v N S ≡ tree t → buildIn v E N (suc k) S ≡ tree t
   unfolding buildIn
-  build-leaf k x g =
-      let l = members N (under (leaf x)) in
-      let b : x < N = g .bound x (eq-eqb x x refl) in
-      let len : length l ≡ 1 = omega (
-        arith,
-        members-one N (under (leaf x)) x b (eq-eqb x x refl),
-        members-uniq N (under (leaf x)) (λ a b p q. sym (eqb-true x a p) ∙ eqb-true x b q),
-      ) in
-      let hd : getD l 0 0 ≡ x = sym (eqb-true x (getD l 0 0) (members-head N (under (leaf x)) (omega arith))) in
-      rw (length-lone l len) (ap (λ (z : ℕ). tree (leaf z)) hd)
+  build-joined k S t p q e = rw (not-true (lone (members N S)) p, q) e
 
-  mutual
-    aho-tree : (t : Tree) (k : ℕ) → Given k t → buildIn E N k (under t) ≡ tree t
-    aho-tree (leaf x) zero g = absurd (omega (arith, g .levels, members-one N (under (leaf x)) x (g .bound x (eq-eqb x x refl)) (eq-eqb x x refl)))
-    aho-tree (leaf x) (suc k) g = build-leaf k x g
-    aho-tree (node f) zero g =
-        let q = two-under f (g .formed .1) (g .formed .0) in
-        absurd (omega (arith, g .levels, members-two N (underF f) (g .bound) (q .0) (q .1) (q .2) (q .3) (q .4)))
-    aho-tree (node f) (suc k) g =
-        let e = parts-children f (g .bound) (g .formed .1) (g .housed) (g .aho .0) in
-        build-node k (underF f) f
-        (let q = two-under f (g .formed .1) (g .formed .0) in many (members N (underF f)) (members-two N (underF f) (g .bound) (q .0) (q .1) (q .2) (q .3) (q .4)))
-        (many (parts E N (underF f)) (rw (e, child-sets-length) (g .formed .0)))
-        (rw e (gather-children (λ p. buildIn E N k p) f
-        (aho-children f k (children-given k f g f (g .housed) (g .aho .1) (kids f (g .formed .1)) (omits f (g .formed .1) (g .formed .0))))))
+  -- a rule Q of trees that says of each node: its children are the parts of its group, or that is joined and ends in this very node; and Q is so of each child
+  module _ (Q : Tree → Type 0)
+      (at-node : (f : Forest) → Below N (underF f) → Formed (node f) → Housed (node f) → Q (node f) → Parted E (underF f) f ⊎ (So (joined E N (underF f)) × (ending v N (underF f) ≡ tree (node f))))
+      (at-children : (f : Forest) → Q (node f) → EveryF Q f) where
+    -- what the induction asks of a tree
+    record Given (k : ℕ) (t : Tree) : Type 0 where
+      bound : Below N (under t)
+      formed : Formed t
+      housed : Housed t
+      rule : Q t
+      levels : length (members N (under t)) ≤ k
 
-    aho-children : (f : Forest) (k : ℕ) → EveryF (Given k) f → EveryF (λ t. buildIn E N k (under t) ≡ tree t) f
-    aho-children nil k g = tt
-    aho-children (cons t f) k g = (aho-tree t k (g .0), aho-children f k (g .1))
+    children-given : (k : ℕ) (F : Forest) → Given (suc k) (node F) → (f : Forest) → HousedF f → EveryF Q f → EveryF (Kid F) f → EveryF (Omits F) f → EveryF (Given k) f
+    children-given k F g nil h a q o = tt
+    children-given k F g (cons t f) h a q o = (
+      record {
+        bound = λ x p. g .bound x (q .0 .inside x p);
+        formed = q .0 .formed;
+        housed = h .0;
+        rule = a .0;
+        levels = let r = o .0 in omega (
+          arith,
+          g .levels,
+          members-lt N (under t) (underF F) (q .0 .inside) (r .0) (g .bound (r .0) (r .1)) (r .2) (r .1),
+        );
+      },
+      children-given k F g f (h .2) (a .1) (q .1) (o .1),
+    )
 
-  pub aho-is-built : (t : Tree) → Below N (under t) → Formed t → Housed t → AhoTree E t → build E N (under t) ≡ tree t
-  unfolding build
-  aho-is-built t bd w h a = aho-tree t N (record { bound = bd; formed = w; housed = h; aho = a; levels = members-bound N (under t) })
+    build-leaf : (k x : ℕ) → Given (suc k) (leaf x) → buildIn v E N (suc k) (under (leaf x)) ≡ tree (leaf x)
+    unfolding buildIn
+    build-leaf k x g =
+        let l = members N (under (leaf x)) in
+        let b : x < N = g .bound x (eq-eqb x x refl) in
+        let len : length l ≡ 1 = omega (
+          arith,
+          members-one N (under (leaf x)) x b (eq-eqb x x refl),
+          members-uniq N (under (leaf x)) (λ a b p q. sym (eqb-true x a p) ∙ eqb-true x b q),
+        ) in
+        let hd : getD l 0 0 ≡ x = sym (eqb-true x (getD l 0 0) (members-head N (under (leaf x)) (omega arith))) in
+        rw (length-lone l len) (ap (λ (z : ℕ). tree (leaf z)) hd)
+
+    two-there : (k : ℕ) (f : Forest) → Given k (node f) → 2 ≤ length (members N (underF f))
+    two-there k f g = let q = two-under f (g .formed .1) (g .formed .0) in members-two N (underF f) (g .bound) (q .0) (q .1) (q .2) (q .3) (q .4)
+
+    mutual
+      rule-tree : (t : Tree) (k : ℕ) → Given k t → buildIn v E N k (under t) ≡ tree t
+      rule-tree (leaf x) zero g = absurd (omega (arith, g .levels, members-one N (under (leaf x)) x (g .bound x (eq-eqb x x refl)) (eq-eqb x x refl)))
+      rule-tree (leaf x) (suc k) g = build-leaf k x g
+      rule-tree (node f) zero g = absurd (omega (arith, g .levels, two-there zero f g))
+      rule-tree (node f) (suc k) g = ⊎-elim
+          (λ p.
+          let e = parts-children f (g .bound) (g .formed .1) (g .housed) p in
+          build-node k (underF f) f (many (members N (underF f)) (two-there (suc k) f g))
+          (many (parts E N (underF f)) (rw (e, child-sets-length) (g .formed .0)))
+          (rw e (gather-children (λ p. buildIn v E N k p) f
+          (rule-children f k (children-given k f g f (g .housed) (at-children f (g .rule)) (kids f (g .formed .1)) (omits f (g .formed .1) (g .formed .0)))))))
+          (λ j. build-joined k (underF f) (node f) (many (members N (underF f)) (two-there (suc k) f g)) (j .0) (j .1))
+          (at-node f (g .bound) (g .formed) (g .housed) (g .rule))
+
+      rule-children : (f : Forest) (k : ℕ) → EveryF (Given k) f → EveryF (λ t. buildIn v E N k (under t) ≡ tree t) f
+      rule-children nil k g = tt
+      rule-children (cons t f) k g = (rule-tree t k (g .0), rule-children f k (g .1))
+
+    pub rule-is-built : (t : Tree) → Below N (under t) → Formed t → Housed t → Q t → buildBy v E N (under t) ≡ tree t
+    unfolding buildBy
+    rule-is-built t bd w h a = rule-tree t N (record { bound = bd; formed = w; housed = h; rule = a; levels = members-bound N (under t) })
+
+  pub aho-is-built : (t : Tree) → Below N (under t) → Formed t → Housed t → AhoTree E t → buildBy v E N (under t) ≡ tree t
+  aho-is-built = rule-is-built (AhoTree E) (λ f bd w h a. inl (a .0)) (λ f a. aho-every E f (a .1))

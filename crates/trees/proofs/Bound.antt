@@ -1,5 +1,5 @@
--- Links, parts and the build do not depend on the number that the species are below. Assumes nothing.
-use mathlib.Core.Bool.{So, _&&_, not}
+-- Links, parts and the builds do not depend on the number that the species are below. Assumes nothing.
+use mathlib.Core.Bool.{Bool, So, _&&_, false, not, true}
 use mathlib.Core.List.{List, map}
 use mathlib.Core.Path.{_∙_, _≡_, ap, ap₂, fun-ext, refl}
 use Prim.Native.Nat.{_<_, _≤_, suc, zero, ℕ}
@@ -10,9 +10,10 @@ use Rattle.sets.proofs.Members.{members-bound, members-more}
 use Rattle.sets.specs.Species.{Below, Species, any, members}
 use Rattle.trees.proofs.Outcomes.{gather-same}
 use Rattle.trees.proofs.Parts.{part-closed, part-in, part-least, part-refl, parts-every}
-use Rattle.trees.proofs.Stopping.{build-levels}
-use Rattle.trees.specs.Build.{build, buildIn, choose, gather}
+use Rattle.trees.proofs.Stopping.{both-levels}
+use Rattle.trees.specs.Build.{build, buildBy, buildIn, choose, ending, gather, leafEach, tree}
 use Rattle.trees.specs.Links.{joined, leads, lone, part, parts}
+use Rattle.trees.specs.Trees.{node}
 use Rattle.trees.specs.Triplets.{Proper, Triplets}
 
 module _ (E : Triplets) (pr : Proper E) (N M : ℕ) (le : N ≤ M) where
@@ -37,15 +38,23 @@ module _ (E : Triplets) (pr : Proper E) (N M : ℕ) (le : N ≤ M) where
     unfolding parts
     parts-bound = ap₂ (λ (f : ℕ → Species) (P : Species). map f (members M P)) part-bound leads-bound ∙ ap (map (part E N S)) (members-more N M (leads E N S) le leads-lt)
 
-  levels-bound : (k : ℕ) (S : Species) → Below N S → buildIn E M k S ≡ buildIn E N k S
-  unfolding buildIn
-  levels-bound zero S bd = refl
-  levels-bound (suc k) S bd =
-      ap₂ (λ (l : List ℕ) (ps : List Species). choose (lone l) (lone ps) (getD l 0 0) S (gather (λ p. buildIn E M k p) ps)) (members-more N M S le bd) (parts-bound S bd)
-      ∙ ap (choose (lone (members N S)) (joined E N S) (getD (members N S) 0 0) S)
-      (gather-same (λ p. buildIn E M k p) (λ p. buildIn E N k p) (parts E N S)
-      (parts-every E N S bd pr (λ p. buildIn E M k p ≡ buildIn E N k p) (λ j hj fj. levels-bound k (part E N S j) (λ x q. bd x (part-in E N S bd pr j x hj q)))))
+  ending-bound : (v : Bool) (S : Species) → Below N S → ending v M S ≡ ending v N S
+  ending-bound false S bd = refl
+  ending-bound true S bd = ap (λ (l : List ℕ). tree (node (leafEach l))) (members-more N M S le bd)
+
+  module _ (v : Bool) where
+    levels-bound : (k : ℕ) (S : Species) → Below N S → buildIn v E M k S ≡ buildIn v E N k S
+    unfolding buildIn
+    levels-bound zero S bd = ending-bound v S bd
+    levels-bound (suc k) S bd =
+        ap₂ (λ (l : List ℕ) (ps : List Species). choose (lone l) (lone ps) (getD l 0 0) (ending v M S) (gather (λ p. buildIn v E M k p) ps)) (members-more N M S le bd) (parts-bound S bd)
+        ∙ ap₂ (choose (lone (members N S)) (joined E N S) (getD (members N S) 0 0)) (ending-bound v S bd)
+        (gather-same (λ p. buildIn v E M k p) (λ p. buildIn v E N k p) (parts E N S)
+        (parts-every E N S bd pr (λ p. buildIn v E M k p ≡ buildIn v E N k p) (λ j hj fj. levels-bound k (part E N S j) (λ x q. bd x (part-in E N S bd pr j x hj q)))))
+
+    pub both-bound : (S : Species) → Below N S → (u : ℕ) → So (S u) → buildBy v E M S ≡ buildBy v E N S
+    unfolding buildBy
+    both-bound S bd u hu = levels-bound M S bd ∙ both-levels v E N pr M S bd u hu (omega (arith, members-bound N S))
 
   pub build-bound : (S : Species) → Below N S → (u : ℕ) → So (S u) → build E M S ≡ build E N S
-  unfolding build
-  build-bound S bd u hu = levels-bound M S bd ∙ build-levels E N pr M S bd u hu (omega (arith, members-bound N S))
+  build-bound = both-bound false

@@ -1,6 +1,6 @@
 -- What can be held by one tree: exactly when no joined set of two or more species lies in the set (Aho's criterion). And what follows for fewer
 -- triplets, and for fewer and more species. Assumes nothing.
-use mathlib.Core.Bool.{So}
+use mathlib.Core.Bool.{So, false}
 use mathlib.Core.Logic.{_↔_, _⊎_, inl, inr, ⊎-elim}
 use mathlib.Core.Path.{_∙_, _≡_, refl}
 use Prim.Native.Nat.{ℕ}
@@ -23,11 +23,11 @@ no-tree E S U b (t, k) = refused E U (b .two) (b .join) t (formed-e t (k .formed
     (λ x h. rw (k .species x) (b .inside x h))
     (λ x y z hx hy hz e. k .keeps x y z (b .inside x hx) (b .inside y hy) (b .inside z hz) e)
 
-pub held-built : (E : Triplets) → Proper E → (S : Species) (t : Tree) → Built E S t → HeldBy E S t
+pub held-built : (E : Triplets) → Proper E → (S : Species) (t : Tree) → Built false E S t → HeldBy E S t
 held-built E pr S t b = record {
   species = b .species;
   formed = formed-i t (b .formed);
-  keeps = λ x y z hx hy hz e. holds-i t x y z (pr .two x y z e) (b .species z ∙ hz) (b .keeps x y z hx hy hz e);
+  keeps = λ x y z hx hy hz e. holds-i t x y z (pr .two x y z e) (b .species z ∙ hz) (b .keeps refl x y z hx hy hz e);
 }
 
 module _ (E : Triplets) (N : ℕ) (pr : Proper E) (S : Species) (bd : Below N S) (u : ℕ) (hu : So (S u)) where
@@ -36,7 +36,7 @@ module _ (E : Triplets) (N : ℕ) (pr : Proper E) (S : Species) (bd : Below N S)
   decide = go (build E N S) refl
     where
       go : (r : Outcome) → build E N S ≡ r → CanBeHeld E S ⊎ ((U : Species) × Stopping E S U)
-      go (tree t) e = inl (t, held-built E pr S t (built E N pr S bd u hu t e))
+      go (tree t) e = inl (t, held-built E pr S t (built false E N pr S bd u hu t e))
       go (stop U) e = inr (U, stopping E N pr S bd u hu U e)
 
   pub aho : CanBeHeld E S ↔ ((U : Species) → Stopping E S U → ⊥)

@@ -9,6 +9,7 @@ pub mod Kids
 pub mod Parts
 pub mod Refused
 pub mod Outcomes
+pub mod Star
 pub mod Built
 pub mod Stopping
 pub mod Joins
@@ -27,3 +28,6 @@ pub mod Triples
 pub mod Earned
 pub mod Flooding
 pub mod Near
+pub mod VetoRule
+pub mod VetoTheorems
+pub mod VetoRuns

@@ -1,4 +1,4 @@
--- What a step of the build gives, taken apart; lists of exactly one. Assumes nothing.
+-- What a step of a build gives, taken apart; lists of exactly one. Assumes nothing.
 use mathlib.Core.Bool.{Bool, So, false, false≢true, not, true}
 use mathlib.Core.List.{List, [], _∷_}
 use mathlib.Core.Logic.{_≢_, _⊎_, inl, inr, ⊎-elim}
@@ -15,6 +15,9 @@ use Rattle.trees.specs.Build.{Outcome, Outcomes, choose, gather, next, s
 use Rattle.trees.specs.Links.{lone}
 use Rattle.trees.specs.Trees.{Forest, Tree, cons, leaf, node}
 
+pub tree-same : (s t : Tree) → tree s ≡ tree t → s ≡ t
+tree-same s t e = cc
+
 pub next-tree : (r : Outcome) (q : Outcomes) (f : Forest) → next r q ≡ trees f → (t : Tree) × (f′ : Forest) × (r ≡ tree t) × (q ≡ trees f′) × (f ≡ cons t f′)
 next-tree (stop U) q f e = let z : _≡_ {A = ℕ} 0 1 = cc in absurd (omega arith)
 next-tree (tree t) (stops U) f e = let z : _≡_ {A = ℕ} 0 1 = cc in absurd (omega arith)
@@ -25,25 +28,25 @@ next-stop (stop W) q U e = inl (cc)
 next-stop (tree t) (stops W) U e = inr (cc)
 next-stop (tree t) (trees f) U e = let z : _≡_ {A = ℕ} 0 1 = cc in absurd (omega arith)
 
-pub choose-tree : (s j : Bool) (x : ℕ) (S : Species) (r : Outcomes) (t : Tree) → choose s j x S r ≡ tree t
-    → (So s × (t ≡ leaf x)) ⊎ (So (not s) × So (not j) × ((f : Forest) × (r ≡ trees f) × (t ≡ node f)))
-choose-tree true j x S r t e = inl (refl, cc)
-choose-tree false true x S r t e = let z : _≡_ {A = ℕ} 0 1 = cc in absurd (omega arith)
-choose-tree false false x S (trees f) t e = inr (refl, refl, (f, refl, cc))
-choose-tree false false x S (stops U) t e = let z : _≡_ {A = ℕ} 0 1 = cc in absurd (omega arith)
+pub choose-stop : (s j : Bool) (x : ℕ) (w : Outcome) (r : Outcomes) (U : Species) → choose s j x w r ≡ stop U
+    → (So (not s) × So j × (w ≡ stop U)) ⊎ (So (not s) × So (not j) × (r ≡ stops U))
+choose-stop true j x w r U e = let z : _≡_ {A = ℕ} 0 1 = cc in absurd (omega arith)
+choose-stop false true x w r U e = inl (refl, refl, e)
+choose-stop false false x w (trees f) U e = let z : _≡_ {A = ℕ} 0 1 = cc in absurd (omega arith)
+choose-stop false false x w (stops W) U e = inr (refl, refl, cc)
 
-pub choose-stop : (s j : Bool) (x : ℕ) (S : Species) (r : Outcomes) (U : Species) → choose s j x S r ≡ stop U
-    → (So (not s) × So j × (U ≡ S)) ⊎ (So (not s) × So (not j) × (r ≡ stops U))
-choose-stop true j x S r U e = let z : _≡_ {A = ℕ} 0 1 = cc in absurd (omega arith)
-choose-stop false true x S r U e = inl (refl, refl, cc)
-choose-stop false false x S (trees f) U e = let z : _≡_ {A = ℕ} 0 1 = cc in absurd (omega arith)
-choose-stop false false x S (stops W) U e = inr (refl, refl, cc)
+pub choose-tree : (s j : Bool) (x : ℕ) (w : Outcome) (r : Outcomes) (t : Tree) → choose s j x w r ≡ tree t
+    → (So s × (t ≡ leaf x)) ⊎ ((So (not s) × So j × (w ≡ tree t)) ⊎ (So (not s) × So (not j) × ((f : Forest) × (r ≡ trees f) × (t ≡ node f))))
+choose-tree true j x w r t e = inl (refl, cc)
+choose-tree false true x w r t e = inr (inl (refl, refl, e))
+choose-tree false false x w (trees f) t e = inr (inr (refl, refl, (f, refl, cc)))
+choose-tree false false x w (stops U) t e = let z : _≡_ {A = ℕ} 0 1 = cc in absurd (omega arith)
 
 -- the children are looked at only where the set is neither one species nor joined
-pub choose-same : (s j : Bool) (x : ℕ) (S : Species) (r r′ : Outcomes) → (So (not j) → r ≡ r′) → choose s j x S r ≡ choose s j x S r′
-choose-same true j x S r r′ h = refl
-choose-same false true x S r r′ h = refl
-choose-same false false x S r r′ h = ap (choose false false x S) (h refl)
+pub choose-same : (s j : Bool) (x : ℕ) (w : Outcome) (r r′ : Outcomes) → (So (not j) → r ≡ r′) → choose s j x w r ≡ choose s j x w r′
+choose-same true j x w r r′ h = refl
+choose-same false true x w r r′ h = refl
+choose-same false false x w r r′ h = ap (choose false false x w) (h refl)
 
 -- what is so of each part's stopping set is so of the one that is named
 pub gather-stop : (g : Species → Outcome) (Q : Species → Type 0) (ps : List Species) → Every (λ p. (U : Species) → g p ≡ stop U → Q U) ps

@@ -1,6 +1,6 @@
 -- From its own triplets a tree is built again: two species of one child are linked by a witness in another child, and species of different
 -- children have no link, so that it is Aho's tree for them. Assumes nothing.
-use mathlib.Core.Bool.{So}
+use mathlib.Core.Bool.{So, false}
 use mathlib.Core.Logic.{_≢_}
 use mathlib.Core.Path.{_≡_, subst}
 use Prim.Native.Nat.{ℕ}
@@ -65,4 +65,4 @@ module _ (E : Triplets) where
 
 -- a tree in house order comes back as it was
 pub rebuilt : (E : Triplets) (N : ℕ) → Proper E → (t : Tree) → Below N (under t) → Formed t → Housed t → Agree E t → build E N (under t) ≡ tree t
-rebuilt E N pr t bd w h ag = aho-is-built E N pr t bd w h (agree-aho E t w ag)
+rebuilt E N pr t bd w h ag = aho-is-built false E N pr t bd w h (agree-aho E t w ag)

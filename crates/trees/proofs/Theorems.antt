@@ -1,6 +1,6 @@
 -- The theorems of building and of the check, each to be read alone. E: the entered triplets; S: a set of species, in the base all n (`below n`);
 -- N: a number that they are below; u: one of them. The definitions stand in `specs/`. Assumes nothing.
-use mathlib.Core.Bool.{So, _&&_}
+use mathlib.Core.Bool.{So, _&&_, false}
 use mathlib.Core.Logic.{Iff·rfl, Iff·symm, Iff·trans, _↔_}
 use mathlib.Core.Path.{_∙_, _≡_, fun-ext, refl, sym}
 use Prim.Native.Nat.{_≤_, ℕ}
@@ -76,7 +76,7 @@ module _ (E : Triplets) (pr : Proper E) (N : ℕ) (S : Species) (bd : Below N S)
 
   -- A tree that is built has exactly the species, is well formed, holds every entered triplet, and is in house order.
   pub built-tree : (t : Tree) → build E N S ≡ tree t → HeldBy E S t × So (inHouseOrder t)
-  built-tree t e = let b = built E N pr S bd u hu t e in (held-built E pr S t b, housed-i t (b .formed) (b .housed))
+  built-tree t e = let b = built false E N pr S bd u hu t e in (held-built E pr S t b, housed-i t (b .formed) (b .housed))
 
   -- And it is Aho's tree: at each node two species are under one child exactly when a walk of links on the node's own group joins them.
   pub built-aho : (t : Tree) → build E N S ≡ tree t → AhoTree E t
@@ -111,7 +111,7 @@ pub aho-built : (E : Triplets) → Proper E → (N : ℕ) (S : Species) → Belo
     → AhoTree E t → build E N S ≡ tree t
 aho-built E pr N S bd t f h sp a =
     let w = formed-e t f in
-    rw (← (fun-ext sp)) (aho-is-built E N pr t (λ x k. bd x (sym (sp x) ∙ k)) w (housed-e t w h) a)
+    rw (← (fun-ext sp)) (aho-is-built false E N pr t (λ x k. bd x (sym (sp x) ∙ k)) w (housed-e t w h) a)
 
 -- So there is one: two well-formed trees in house order with the same species that both are Aho's tree are equal.
 pub aho-one : (E : Triplets) → Proper E → (t t′ : Tree) → So (wellFormed t) → So (wellFormed t′) → So (inHouseOrder t) → So (inHouseOrder t′)

@@ -4,5 +4,6 @@ pub mod Triplets
 pub mod Links
 pub mod Aho
 pub mod Build
+pub mod Veto
 pub mod Held
 pub mod Check

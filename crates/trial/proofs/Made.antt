@@ -19,8 +19,8 @@ module _ {o o′ : List ℕ} {at r : ℕ} where
   line-same k j n m x y e w = subst (λ (z : ℕ). Writes o at (callLine z n m x y) o′ r) (sym e) w
 
   -- one that is none of these has that of the check
-  pub line-check : (k n m : ℕ) (x y : List ℕ) → (k ≡ 114 → ⊥) → (k ≡ 108 → ⊥) → (k ≡ 101 → ⊥) → (k ≡ 111 → ⊥) → (k ≡ 98 → ⊥) → (k ≡ 110 → ⊥) → (k ≡ 119 → ⊥) → Writes o at (checkLine n x y) o′ r → Writes o at (callLine k n m x y) o′ r
-  line-check k n m x y a l e h b p d w = rw (ne-eqb k 114 a, ne-eqb k 108 l, ne-eqb k 101 e, ne-eqb k 111 h, ne-eqb k 98 b, ne-eqb k 110 p, ne-eqb k 119 d) w
+  pub line-check : (k n m : ℕ) (x y : List ℕ) → (k ≡ 114 → ⊥) → (k ≡ 108 → ⊥) → (k ≡ 101 → ⊥) → (k ≡ 111 → ⊥) → (k ≡ 98 → ⊥) → (k ≡ 118 → ⊥) → (k ≡ 110 → ⊥) → (k ≡ 119 → ⊥) → Writes o at (checkLine n x y) o′ r → Writes o at (callLine k n m x y) o′ r
+  line-check k n m x y a l e h b v p d w = rw (ne-eqb k 114 a, ne-eqb k 108 l, ne-eqb k 101 e, ne-eqb k 111 h, ne-eqb k 98 b, ne-eqb k 118 v, ne-eqb k 110 p, ne-eqb k 119 d) w
 
 module _ (c : Call) (x y : List ℕ) where
   pub made-none : c .begun ≡ false → [] ≡ madeLine c x y

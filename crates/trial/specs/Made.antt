@@ -8,13 +8,13 @@ use lib.Dec.{eqb}
 use lib.ListN.{getD, take}
 use Rattle.calls.specs.Calls.{CallBytes}
 use Rattle.calls.specs.Inputs.{Took}
-use Rattle.lines.specs.Lines.{buildLine, checkLine, enterLine, listLine, orderLine, parseLine, readLine, renderLine}
+use Rattle.lines.specs.Lines.{buildLine, checkLine, enterLine, listLine, orderLine, parseLine, readLine, renderLine, vetoLine}
 use Rattle.writing.specs.Writes.{Writes}
 use Rattle.trial.specs.Records.{recordsOf}
 use Rattle.calls.specs.declared.Call.{Call}
 use Rattle.calls.specs.declared.input.Input.{Input}
 
--- the line of a call with the byte k, the numbers n and m, and the fields x and y: r reads, l lists, e enters, o puts in house order, b builds over the set m, n reads a Newick text, w writes one, and c, the last one, checks
+-- the line of a call with the byte k, the numbers n and m, and the fields x and y: r reads, l lists, e enters, o puts in house order, b builds over the set m, v makes the veto build over it, n reads a Newick text, w writes one, and c, the last one, checks
 abbrev pub callLine : ℕ → ℕ → ℕ → List ℕ → List ℕ → List ℕ
 callLine k n m x y =
     cond (eqb k 114) (readLine x) (
@@ -22,8 +22,9 @@ callLine k n m x y =
     cond (eqb k 101) (enterLine n (recordsOf x) y) (
     cond (eqb k 111) (orderLine n x y) (
     cond (eqb k 98) (buildLine n m x y) (
+    cond (eqb k 118) (vetoLine n m x y) (
     cond (eqb k 110) (parseLine n x y) (
-    cond (eqb k 119) (renderLine n x y) (checkLine n x y)))))))
+    cond (eqb k 119) (renderLine n x y) (checkLine n x y))))))))
 
 -- "cut", and byte 10
 abbrev pub cut-line : List ℕ

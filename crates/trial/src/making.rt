@@ -68,6 +68,7 @@ fn call_line(
         b'e' => enter_line(out, at, n, first, records, second),
         b'o' => lines::order_line(out, at, n, first, second),
         b'b' => lines::build_line(out, at, n, m as u64, first, second),
+        b'v' => lines::veto_line(out, at, n, m as u64, first, second),
         b'n' => lines::parse_line(out, at, n, first, second),
         b'w' => lines::render_line(out, at, n, first, second),
         _ => lines::check_line(out, at, n, first, second),

@@ -1,21 +1,20 @@
 -- What the looks refuse, and what is built where they refuse nothing. Assumes nothing.
 use mathlib.Core.List.{List, [], _∷_}
-use mathlib.Core.Path.{_∙_, _≡_, subst, sym}
+use mathlib.Core.Path.{_∙_, _≡_, sym}
 use Prim.Native.Nat.{ℕ, _≤_}
 use borrow.Author.Needs.{needs}
 use lib.ListN.{length}
 use Rattle.sets.specs.Sets.{size}
-use Rattle.trees.specs.Build.{Outcome}
 use Rattle.bodies.specs.Nodes.{roomFor}
-use Rattle.answers.proofs.Answered.{first-stop, is-refused, is-rest}
+use Rattle.answers.proofs.Answered.{first-stop, is-refused}
 use Rattle.answers.specs.Inputs.{Count}
 use Rattle.answers.specs.Looks.{firstRefusal}
 use Rattle.answers.specs.declared.Look.{Look}
 use Rattle.answers.specs.declared.Look.the-variants.{Pass}
-use Rattle.building.specs.Builds.{Raises, inputLooks, lookOutcome, outcome}
+use Rattle.building.specs.Builds.{inputLooks, lookOutcome, outcome}
 use Rattle.building.specs.GoodSet.{GoodSet}
 use Rattle.building.proofs.Chosen.{input-good}
-use Rattle.building.proofs.Whole.{same-outcome}
+use Rattle.building.proofs.Whole.{builds}
 use Rattle.building.proofs.build.Statement.{statement}
 use Rattle.building.proofs.build.Tie as tie
 
@@ -69,8 +68,7 @@ returns c =
     let r = c .before .before in
     let e = r .before .before in
     let x = p e in
-    let q = same-outcome (n x) (s x) (t x) (good e .1) (good e .0 .most) in
-    is-rest (looks x) (passed e) (subst (λ (R : Outcome). Raises R [] (room x) (r .raise .result) (r .raise .last .1 .1 .0)) q (r .raise .ensures))
+    builds (n x) (s x) (t x) (room x) (r .raise .result) (r .raise .last .1 .1 .1 .0) (passed e) (r .raise .ensures)
 
 returns-2 : tie.Need-returns-2
 returns-2 c =

@@ -30,6 +30,9 @@ row-requires-7 c κs = search needs
 row-requires-8 : tie.Need-row-requires-8
 row-requires-8 c κs = search needs
 
+row-requires-9 : tie.Need-row-requires-9
+row-requires-9 c κs = search needs
+
 returns : tie.Need-returns
 unfolding shape
 returns c = shape-same (c .before .match .keys1) (c .row .ensures) (omega arith)
@@ -63,9 +66,13 @@ unfolding shape
 returns-8 c = shape-same (c .before .match .keys8) (c .row8 .ensures) (omega arith)
 
 returns-9 : tie.Need-returns-9
-returns-9 c =
+unfolding shape
+returns-9 c = shape-same (c .before .match .keys9) (c .row9 .ensures) (omega arith)
+
+returns-10 : tie.Need-returns-10
+returns-10 c =
     let k = c .match .rest in
-    (shape-unknown (c .before .args .byte) (k .0 .0 .0 .0 .0 .0 .0 .1) (k .0 .0 .0 .0 .0 .0 .1) (k .0 .0 .0 .0 .0 .1) (k .0 .0 .0 .0 .1) (k .0 .0 .0 .1) (k .0 .0 .1) (k .0 .1) (k .1), omega arith)
+    (shape-unknown (c .before .args .byte) (k .0 .0 .0 .0 .0 .0 .0 .0 .1) (k .0 .0 .0 .0 .0 .0 .0 .1) (k .0 .0 .0 .0 .0 .0 .1) (k .0 .0 .0 .0 .0 .1) (k .0 .0 .0 .0 .1) (k .0 .0 .0 .1) (k .0 .0 .1) (k .0 .1) (k .1), omega arith)
 
 pub shape-of-spec : {M : Type 1} → statement M
 shape-of-spec =
@@ -79,6 +86,7 @@ shape-of-spec =
     row-requires-6
     row-requires-7
     row-requires-8
+    row-requires-9
     returns
     returns-2
     returns-3
@@ -87,4 +95,5 @@ shape-of-spec =
     returns-6
     returns-7
     returns-8
-    returns-9)
+    returns-9
+    returns-10)

@@ -19,6 +19,9 @@ order-line-requires c κs = search needs
 build-line-requires : tie.Need-build-line-requires
 build-line-requires c κs = search needs
 
+veto-line-requires : tie.Need-veto-line-requires
+veto-line-requires c κs = search needs
+
 parse-line-requires : tie.Need-parse-line-requires
 parse-line-requires c κs = search needs
 
@@ -92,7 +95,7 @@ same-length-12 c = search needs
 returns-6 : tie.Need-returns-6
 returns-6 c =
     let s = c .before .before .before .before .before .before .before .before .before .before .before in
-    line-same _ 110 (s .args .n) (s .args .m) (s .args .first .now) (s .args .second .now) (c .before .before .before .before .before .before .before .match .keys6) (c .before .before .before .before .parse-line .ensures .0)
+    line-same _ 118 (s .args .n) (s .args .m) (s .args .first .now) (s .args .second .now) (c .before .before .before .before .before .before .before .match .keys6) (c .before .before .before .before .veto-line .ensures .0)
 
 same-length-13 : tie.Need-same-length-13
 same-length-13 c = search needs
@@ -103,7 +106,7 @@ same-length-14 c = search needs
 returns-7 : tie.Need-returns-7
 returns-7 c =
     let s = c .before .before .before .before .before .before .before .before .before .before .before in
-    line-same _ 119 (s .args .n) (s .args .m) (s .args .first .now) (s .args .second .now) (c .before .before .before .before .before .before .before .match .keys7) (c .before .before .before .before .render-line .ensures .0)
+    line-same _ 110 (s .args .n) (s .args .m) (s .args .first .now) (s .args .second .now) (c .before .before .before .before .before .before .before .match .keys7) (c .before .before .before .before .parse-line .ensures .0)
 
 same-length-15 : tie.Need-same-length-15
 same-length-15 c = search needs
@@ -113,9 +116,20 @@ same-length-16 c = search needs
 
 returns-8 : tie.Need-returns-8
 returns-8 c =
+    let s = c .before .before .before .before .before .before .before .before .before .before .before in
+    line-same _ 119 (s .args .n) (s .args .m) (s .args .first .now) (s .args .second .now) (c .before .before .before .before .before .before .before .match .keys8) (c .before .before .before .before .render-line .ensures .0)
+
+same-length-17 : tie.Need-same-length-17
+same-length-17 c = search needs
+
+same-length-18 : tie.Need-same-length-18
+same-length-18 c = search needs
+
+returns-9 : tie.Need-returns-9
+returns-9 c =
     let s = c .before .before .before .before .before .before .before .before .before in
     let k = c .before .before .before .before .before .match .rest in
-    line-check (s .args .byte) (s .args .n) (s .args .m) (s .args .first .now) (s .args .second .now) (k .0 .0 .0 .0 .0 .0 .1) (k .0 .0 .0 .0 .0 .1) (k .0 .0 .0 .0 .1) (k .0 .0 .0 .1) (k .0 .0 .1) (k .0 .1) (k .1) (c .before .before .check-line .ensures)
+    line-check (s .args .byte) (s .args .n) (s .args .m) (s .args .first .now) (s .args .second .now) (k .0 .0 .0 .0 .0 .0 .0 .1) (k .0 .0 .0 .0 .0 .0 .1) (k .0 .0 .0 .0 .0 .1) (k .0 .0 .0 .0 .1) (k .0 .0 .0 .1) (k .0 .0 .1) (k .0 .1) (k .1) (c .before .before .check-line .ensures)
 
 pub call-line-spec : {M : Type 1} → statement M
 call-line-spec =
@@ -126,6 +140,7 @@ call-line-spec =
     enter-line-requires
     order-line-requires
     build-line-requires
+    veto-line-requires
     parse-line-requires
     render-line-requires
     check-line-requires
@@ -152,4 +167,7 @@ call-line-spec =
     returns-7
     same-length-15
     same-length-16
-    returns-8)
+    returns-8
+    same-length-17
+    same-length-18
+    returns-9)

@@ -1,0 +1,33 @@
+-- The reply to an answer of the veto build is handed back. Assumes nothing.
+use borrow.Author.Needs.{needs}
+use Rattle.building.specs.Builds.{buildTold}
+use Rattle.exports.proofs.Laying.{handed}
+use Rattle.exports.proofs.koodhaxil_veto.Statement.{statement}
+use Rattle.exports.proofs.koodhaxil_veto.Tie as tie
+
+veto-requires : tie.Need-veto-requires
+veto-requires c κs = search needs
+
+build-requires : tie.Need-build-requires
+build-requires c κs = search needs
+
+lay-requires : tie.Need-lay-requires
+lay-requires c κs = search needs
+
+same-length : tie.Need-same-length
+same-length c = search needs
+
+same-length-2 : tie.Need-same-length-2
+same-length-2 c = search needs
+
+returns : tie.Need-returns
+returns c =
+    let h = c .before .before in
+    let s = h .before .before in
+    let l = s .before .before .before in
+    (handed buildTold _ (s .build .ensures) (l .veto .ensures .is) (h .lay .ensures), l .veto .ensures .holds)
+
+pub koodhaxil-veto-spec : {M : Type 1} → statement M
+koodhaxil-veto-spec =
+    tie.close
+    (tie.spec veto-requires build-requires lay-requires same-length same-length-2 returns)
