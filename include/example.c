@@ -53,6 +53,16 @@ static void print_table(const uint8_t *table)
     printf("\n");
 }
 
+/* Prints the species of a set. */
+static void print_set(uint64_t set)
+{
+    int species;
+
+    for (species = 0; species < N; species++) {
+        if (set >> species & 1) printf(" %d", species);
+    }
+}
+
 static int unexpected(const char *what, size_t number)
 {
     printf("%s: unexpected answer %zu\n", what, number);
@@ -66,8 +76,8 @@ int main(void)
     uint8_t table[KOODHAXIL_TABLE(N)], before[KOODHAXIL_TABLE(N)];
     uint8_t tree[KOODHAXIL_ROOM(N)], again[KOODHAXIL_ROOM(N)], text[KOODHAXIL_TEXT_ROOM];
     size_t values[KOODHAXIL_VALUES];
-    size_t number, nodes, species;
-    uint64_t occurring;
+    size_t number, nodes, dropped;
+    uint64_t occurring, list[KOODHAXIL_LIST];
 
     number = koodhaxil_read(papers, sizeof papers, values, KOODHAXIL_VALUES);
     if (number != KOODHAXIL_DONE) return unexpected("reading", number);
@@ -92,6 +102,22 @@ int main(void)
     printf("check of that tree: refused with %zu at index %zu", number, values[0]);
     if (!koodhaxil_triple(values[0], values, KOODHAXIL_VALUES)) return unexpected("triple", 0);
     printf(", since the papers do not force what it says of (%zu,%zu,%zu)\n", values[0], values[1], values[2]);
+
+    /* So its groups that nobody forced go, one after the other, and what is left passes. */
+    number = koodhaxil_loosen(N, table, sizeof table, tree, 2 * nodes, again, sizeof again, list, KOODHAXIL_LIST, values, KOODHAXIL_VALUES);
+    if (number != KOODHAXIL_DONE) return unexpected("loosening", number);
+    nodes = values[0];
+    printf("loosened: ");
+    print_tree(again, nodes, 0);
+    printf(", %zu nodes; dropped", nodes);
+    for (dropped = 0; dropped < values[1]; dropped++) {
+        printf("%s", dropped == 0 ? ":" : ", then");
+        print_set(list[dropped]);
+    }
+    printf("\n");
+    number = koodhaxil_check(N, table, sizeof table, again, 2 * nodes, values, KOODHAXIL_VALUES);
+    if (number != KOODHAXIL_DONE) return unexpected("checking", number);
+    printf("check of that tree: passed\n");
 
     /* The first paper's tree alone, its children in another order: house order turns them, and the check passes it. */
     number = koodhaxil_order(N, (const uint8_t[]){ 255, 255, 0, 2, 0, 255, 2, 1, 2, 0 }, 10, again, sizeof again, values, KOODHAXIL_VALUES);
@@ -146,9 +172,7 @@ int main(void)
     number = koodhaxil_build(N, KOODHAXIL_ALL(N), table, sizeof table, tree, sizeof tree, values, KOODHAXIL_VALUES);
     if (number != KOODHAXIL_NO_TREE) return unexpected("building", number);
     printf("building with 02|1 beside 01|2: refused with %zu, no tree holds what is said of the species", number);
-    for (species = 0; species < N; species++) {
-        if (values[0] >> species & 1) printf(" %zu", species);
-    }
+    print_set(values[0]);
     printf("\n");
 
     /* The veto build gives a tree even then: on three species, 01|2 beside 02|1 leave a fan. */

@@ -19,7 +19,7 @@
  *
  * A table has C(n,3) bytes, one for each triple a < b < c, at the place KOODHAXIL_INDEX(a, b, c). In it 1 stands for ab|c, 2 for ac|b and 4 for
  * bc|a, and 8 for a fan, added together; 0 says nothing. Listing sets 8 where some tree has all three species and leaves them as a fan; entering never
- * does. Both builds and the check read 1, 2 and 4 alone.
+ * does. Both builds, the check and loosening read 1, 2 and 4 alone.
  *
  * A set of species is a uint64_t: bit i stands for species i. A species occurs in a collection where some tree has it, in a triplet or not; in records
  * where some record has it.
@@ -34,7 +34,7 @@
  * HOW SLICES ARE PASSED
  *
  * A slice is two arguments: a pointer, and behind it how many elements it points at. These are bytes, records (koodhaxil_triplet, three bytes each
- * and nothing between them) or numbers (size_t, in `values`); the length counts elements, not bytes.
+ * and nothing between them), sets (uint64_t) or numbers (size_t, in `values`); the length counts elements, not bytes.
  *
  *
  * WHAT THE CALLER ENSURES
@@ -43,7 +43,7 @@
  * slices, and takes for granted what C does not say of a pointer and a length. Nothing tests it:
  *
  * - A pointer points at as many elements as its length says, which can be read, and can be written where it is not const. It is not null, even
- *   where the length is 0; nothing is read or written there then. A pointer to size_t is aligned as a size_t is.
+ *   where the length is 0; nothing is read or written there then. A pointer to size_t is aligned as a size_t is, one to uint64_t as a uint64_t is.
  * - What is lent for writing (a pointer that is not const) overlaps nothing else that is handed to the same call. What is only read may overlap.
  * - No other thread writes what is lent, or reads what is lent for writing, before the call returns. Calls that share no such memory may run at the
  *   same time.
@@ -57,8 +57,9 @@
  * answer, and 0 places are allowed. Where several refusals apply, the answer is the first one in the order that stands at the function.
  * koodhaxil_triple is no operation but a question, answered 1 for yes and 0 for no.
  *
- * A refusal changes no byte of a table or a room. On 0, listing and entering fill the whole table, whatever it held; house order, both builds
- * and reading a text write a body to the front of the room, and writing a text that text, and change nothing behind it.
+ * A refusal changes no byte of a table or a room, and no set of a list. On 0, listing and entering fill the whole table, whatever it held; house order,
+ * both builds, loosening and reading a text write a body to the front of the room, and writing a text that text, and change nothing behind it; nor does
+ * loosening behind the sets that it writes to the front of the list.
  */
 #ifndef KOODHAXIL_H
 #define KOODHAXIL_H
@@ -75,7 +76,8 @@ enum koodhaxil_number {
     KOODHAXIL_DONE = 0,          /* done                                               read, list: n, tree count, set that occurs; */
                                  /*                                                    enter: n, set that occurs; */
                                  /*                                                    order, build, veto, parse: node count; check: nothing; */
-                                 /*                                                    render: length of the text */
+                                 /*                                                    render: length of the text; */
+                                 /*                                                    loosen: node count, how many sets were dropped */
     KOODHAXIL_BAD_VERSION = 1,   /* the version byte is not 1                          nothing */
     KOODHAXIL_BAD_COUNTS = 2,    /* n is 0 or over 64, or there are over 16 trees      nothing */
     KOODHAXIL_ENDS_EARLY = 3,    /* the bytes end early                                tree number, 0 for the header */
@@ -84,7 +86,7 @@ enum koodhaxil_number {
     KOODHAXIL_BAD_TREE = 6,      /* a tree rule is broken                              tree number, node, fault, what the fault carries */
     KOODHAXIL_BAD_TABLE = 7,     /* the table's length is not C(n,3)                   nothing */
     KOODHAXIL_BAD_BYTE = 8,      /* a byte of the table is over 15                     the first such place */
-    KOODHAXIL_SHORT_ROOM = 9,    /* the room is too short                              nothing */
+    KOODHAXIL_SHORT_ROOM = 9,    /* the room or the list is too short                  nothing */
     KOODHAXIL_NO_TREE = 10,      /* no tree holds every entered triplet                the set that stops: bit i for species i */
     KOODHAXIL_CONTRADICTED = 11, /* an entered triplet contradicts the tree            triple index, table byte */
     KOODHAXIL_UNFORCED = 12,     /* a triplet of the tree is not forced                triple index */
@@ -120,6 +122,9 @@ enum koodhaxil_fault {
 
 /* Room that is long enough for the Newick text of any tree: a tree of 64 species has one of as many bytes, and none has a longer one. */
 #define KOODHAXIL_TEXT_ROOM 308
+
+/* Places of the list that loosening asks for: no tree has more groups that it may drop. */
+#define KOODHAXIL_LIST 62
 
 /* Places of `values` for the longest answer. */
 #define KOODHAXIL_VALUES 4
@@ -201,6 +206,17 @@ size_t koodhaxil_veto(size_t n, uint64_t set, const uint8_t *table, size_t table
  */
 size_t koodhaxil_check(size_t n, const uint8_t *table, size_t table_length, const uint8_t *body, size_t body_length, size_t *values,
                        size_t values_length);
+
+/*
+ * Loosens a tree by a table. An inner node's group, the root's aside, is earned when for every sibling's group the links on the two together join all of
+ * it; the links are those of the entered triplets on triples that the tree resolves. While a group is not earned, the first such one in house order is
+ * dropped: its children go to its parent. The final tree goes to the front of the room, in house order; the room is as long as the body or longer. The
+ * dropped sets go to the front of the list, in the order they went; the list has KOODHAXIL_LIST places or more. The check passes the final tree, and where
+ * it passes the candidate, nothing is dropped. 11 is as in the check.
+ * Refusals: 2, 7, 8, 5, 6, 11, 9.
+ */
+size_t koodhaxil_loosen(size_t n, const uint8_t *table, size_t table_length, const uint8_t *body, size_t body_length, uint8_t *room, size_t room_length,
+                        uint64_t *list, size_t list_length, size_t *values, size_t values_length);
 
 /*
  * Reads a Newick text into a body, at the front of the room, which is as long as the body or longer: KOODHAXIL_MOST_BODY bytes are always enough. The

@@ -1,12 +1,13 @@
 // Times the library's operations against its twin in one process, listing 16 trees against listing one, and building with a veto against building
-// without, as one table in Markdown. Exit 1 where a limit is not met or an answer differs.
+// without, as one table in Markdown. One row has a limit in milliseconds too. Exit 1 where a limit is not met or an answer differs.
 
 mod boundary;
 mod clock;
 mod shapes;
 mod twin;
 
-use shapes::{body, candidates, collection, quarrels, shuffle, shuffled, text, triples, Candidate, Dice, Quarrel, Shape, SEED, SHAPES};
+use shapes::{body, candidates, collection, loosenings, quarrels, shuffle, shuffled, text, triples};
+use shapes::{Candidate, Dice, Loosening, Quarrel, Shape, SEED, SHAPES};
 use std::hint::black_box;
 use std::time::Duration;
 
@@ -14,17 +15,22 @@ const N: usize = 64;
 const TABLE: usize = 41_664;
 const BODY: usize = 254;
 const TEXT: usize = 308;
+const LIST: usize = 62;
 const ALL: u64 = u64::MAX;
 const TWIN_LIMIT: f64 = 1.3;
 const ORDER_LIMIT: f64 = 1.5;
 const TREES_LIMIT: f64 = 17.0;
 const VETO_LIMIT: f64 = 1.05;
 const CHECK_GUIDES: [f64; 4] = [10.0, 20.0, 10.0, 50.0];
+const LOOSEN_BOUNDS: [Bound; 3] = [Bound::Limit(50.0), Bound::No, Bound::No];
 const ROUNDS: usize = 61;
 const SAMPLE: Duration = Duration::from_micros(1_000);
 
 // Both builds: from n, a set and a table to a body.
 type Builder = fn(usize, u64, &[u8], &mut [u8], &mut [usize]) -> usize;
+
+// A candidate loosened by a table: from n, a table and a body to a body and a list of sets.
+type Loosener = fn(usize, &[u8], &[u8], &mut [u8], &mut [u64], &mut [usize]) -> usize;
 
 // The operations of one side, the library or the twin. Putting in house order, building over a set, reading a text and writing one go from n and a
 // body, a table or a text to a body or a text.
@@ -36,6 +42,7 @@ struct Side {
     build: Builder,
     veto: Builder,
     check: fn(usize, &[u8], &[u8], &mut [usize]) -> usize,
+    loosen: Loosener,
     parse: fn(usize, &[u8], &mut [u8], &mut [usize]) -> usize,
     render: fn(usize, &[u8], &mut [u8], &mut [usize]) -> usize,
 }
@@ -48,6 +55,7 @@ const LIBRARY: Side = Side {
     build: boundary::build,
     veto: boundary::veto,
     check: boundary::check,
+    loosen: boundary::loosen,
     parse: boundary::parse,
     render: boundary::render,
 };
@@ -60,6 +68,7 @@ const TWIN: Side = Side {
     build: twin::build,
     veto: twin::veto,
     check: twin::check,
+    loosen: twin::loosen,
     parse: twin::parse,
     render: twin::render,
 };
@@ -154,23 +163,39 @@ fn vetoed(side: &Side, quarrel: &Quarrel) -> Option<Told> {
     (vetoed == ordered && vetoed.0 == 0).then_some(vetoed)
 }
 
+// The final tree has to be the case's own, once this is put in house order, and the front of the list its dropped sets.
+fn loosened(side: &Side, case: &Loosening) -> Option<(Told, Vec<u64>)> {
+    let mut list = vec![77; LIST + 2];
+    let mut sets = list.clone();
+    sets[..case.dropped.len()].copy_from_slice(&case.dropped);
+    let loosened = told(BODY, |room, values| (side.loosen)(N, &case.table, &case.body, room, &mut list, values));
+    let mut ordered = told(BODY, |room, values| (side.order)(N, &case.tree, room, values));
+    ordered.1[1] = case.dropped.len();
+    (loosened == ordered && list == sets && loosened.0 == 0).then_some((loosened, list))
+}
+
 fn differ(what: &str) -> ! {
     println!("{what}: the library and the twin do not both give the right answer with the same values and bytes");
     std::process::exit(1);
 }
 
-fn compare(runs: &[Run], quarrels: &[Quarrel], candidates: &[Candidate]) {
+// Both sides have to tell the same, and the right thing.
+fn agree<T: PartialEq>(what: &str, tell: impl Fn(&Side) -> Option<T>) {
+    let wanted = tell(&TWIN);
+    if wanted.is_none() || wanted != tell(&LIBRARY) {
+        differ(what);
+    }
+}
+
+fn compare(runs: &[Run], quarrels: &[Quarrel], candidates: &[Candidate], loosenings: &[Loosening]) {
     for run in runs {
-        let wanted = answers(&TWIN, run);
-        if wanted.is_none() || wanted != answers(&LIBRARY, run) {
-            differ(run.name);
-        }
+        agree(run.name, |side| answers(side, run));
     }
     for quarrel in quarrels {
-        let wanted = vetoed(&TWIN, quarrel);
-        if wanted.is_none() || wanted != vetoed(&LIBRARY, quarrel) {
-            differ(quarrel.name);
-        }
+        agree(quarrel.name, |side| vetoed(side, quarrel));
+    }
+    for case in loosenings {
+        agree(case.name, |side| loosened(side, case));
     }
     for candidate in candidates {
         let mut values = [77; 4];
@@ -228,6 +253,25 @@ fn compared(mut one: impl FnMut(), mut other: impl FnMut()) -> [f64; 3] {
     [median(times), median(others), median(ratios)]
 }
 
+// A time in milliseconds that the library's is held against. A guide is no limit: nothing fails where the time is longer.
+enum Bound {
+    No,
+    Guide(f64),
+    Limit(f64),
+}
+
+impl Bound {
+    // Is a time in microseconds allowed, and what does the table say of it?
+    fn allows(self, time: f64) -> (bool, String) {
+        let says = |kind: &str, most: f64, within: bool| format!("{kind} {most} ms: {}", if within { "within" } else { "over" });
+        match self {
+            Bound::No => (true, String::new()),
+            Bound::Guide(most) => (true, says("guide", most, time <= most * 1e3)),
+            Bound::Limit(most) => (time <= most * 1e3, says("limit", most, time <= most * 1e3)),
+        }
+    }
+}
+
 // The table, whose rows are printed as they come.
 struct Table {
     met: bool,
@@ -235,28 +279,30 @@ struct Table {
 
 impl Table {
     fn head() -> Table {
-        println!("| operation | input                                      |  library, us |     twin, us |  ratio | limit | met | guide         |");
+        println!(
+            "| operation | input                                      |  library, us |     twin, us |  ratio | limit | met | guide or limit      |"
+        );
         println!("|---|---|--:|--:|--:|--:|---|---|");
         Table { met: true }
     }
 
-    fn row(&mut self, operation: &str, input: &str, library: f64, twin: &str, ratio: f64, limit: f64, guide: &str) {
-        let met = ratio <= limit;
+    fn row(&mut self, operation: &str, input: &str, library: f64, twin: &str, ratio: f64, limit: f64, bound: Bound) {
+        let (allowed, bound) = bound.allows(library);
+        let met = ratio <= limit && allowed;
         self.met &= met;
         let verdict = if met { "yes" } else { "NO" };
-        println!("| {operation:<9} | {input:<42} | {library:>12.2} | {twin:>12} | {ratio:>6.3} | {limit:>5} | {verdict:<3} | {guide:<13} |");
+        println!("| {operation:<9} | {input:<42} | {library:>12.2} | {twin:>12} | {ratio:>6.3} | {limit:>5} | {verdict:<3} | {bound:<19} |");
     }
 
     // The library against the twin.
     fn twins<W: FnMut()>(&mut self, operation: &str, input: &str, limit: f64, work: impl Fn(&Side) -> W) {
-        self.guided(operation, input, limit, work, None);
+        self.bounded(operation, input, limit, work, Bound::No);
     }
 
-    // The same, with the library's time beside a guide in milliseconds, which is no limit.
-    fn guided<W: FnMut()>(&mut self, operation: &str, input: &str, limit: f64, work: impl Fn(&Side) -> W, guide: Option<f64>) {
+    // The same, with the library's own time held against a bound.
+    fn bounded<W: FnMut()>(&mut self, operation: &str, input: &str, limit: f64, work: impl Fn(&Side) -> W, bound: Bound) {
         let [library, twin, ratio] = compared(work(&LIBRARY), work(&TWIN));
-        let guide = guide.map(|guide| format!("{guide} ms: {}", if library <= guide * 1e3 { "within" } else { "over" }));
-        self.row(operation, input, library, &format!("{twin:.2}"), ratio, limit, &guide.unwrap_or_default());
+        self.row(operation, input, library, &format!("{twin:.2}"), ratio, limit, bound);
     }
 }
 
@@ -269,7 +315,7 @@ fn reading<'a>(side: &Side, bytes: &'a [u8]) -> impl FnMut() + 'a {
 }
 
 // Filling a table or a room of some bytes.
-fn filling<'a>(lent: usize, call: impl Fn(&mut [u8], &mut [usize]) -> usize + 'a) -> impl FnMut() + 'a {
+fn filling<'a>(lent: usize, mut call: impl FnMut(&mut [u8], &mut [usize]) -> usize + 'a) -> impl FnMut() + 'a {
     let mut lent = vec![0; lent];
     let mut values = [0; 4];
     move || {
@@ -315,10 +361,20 @@ fn checking<'a>(side: &Side, candidate: &'a Candidate) -> impl FnMut() + 'a {
     }
 }
 
+fn loosening<'a>(side: &Side, case: &'a Loosening) -> impl FnMut() + 'a {
+    let loosen = side.loosen;
+    let mut list = [0; LIST];
+    filling(BODY, move |room, values| {
+        let number = loosen(N, black_box(&case.table), black_box(&case.body), room, &mut list, values);
+        black_box(&list);
+        number
+    })
+}
+
 fn main() {
     let runs = SHAPES.map(run);
-    let (quarrels, candidates) = (quarrels(), candidates());
-    compare(&runs, &quarrels, &candidates);
+    let (quarrels, candidates, loosenings) = (quarrels(), candidates(), loosenings());
+    compare(&runs, &quarrels, &candidates, &loosenings);
     println!("The answers of library and twin are the same. All have 64 species; 16 trees are the same tree 16 times.");
     println!("Medians of {ROUNDS} rounds, the two in turn, in processor time; the ratio is the median of the rounds' ratios.");
     println!();
@@ -333,7 +389,7 @@ fn main() {
     }
     for run in &runs {
         let [sixteen, _, ratio] = compared(listing(&LIBRARY, &run.sixteen), listing(&LIBRARY, &run.one));
-        table.row("list", &format!("{}, 16 trees; the ratio is to 1 tree", run.name), sixteen, "", ratio, TREES_LIMIT, "");
+        table.row("list", &format!("{}, 16 trees; the ratio is to 1 tree", run.name), sixteen, "", ratio, TREES_LIMIT, Bound::No);
     }
     for run in &runs {
         table.twins("enter", &format!("{}, {} records", run.name, run.records.len()), TWIN_LIMIT, |side| entering(side, &run.records));
@@ -353,9 +409,12 @@ fn main() {
     // The nested tree takes the most splitting.
     let nested = &runs[0];
     let [vetoed, _, ratio] = compared(building(LIBRARY.veto, &nested.table), building(LIBRARY.build, &nested.table));
-    table.row("veto", &format!("{}; the ratio is to the plain build", nested.name), vetoed, "", ratio, VETO_LIMIT, "");
+    table.row("veto", &format!("{}; the ratio is to the plain build", nested.name), vetoed, "", ratio, VETO_LIMIT, Bound::No);
     for (candidate, guide) in candidates.iter().zip(CHECK_GUIDES) {
-        table.guided("check", candidate.name, TWIN_LIMIT, |side| checking(side, candidate), Some(guide));
+        table.bounded("check", candidate.name, TWIN_LIMIT, |side| checking(side, candidate), Bound::Guide(guide));
+    }
+    for (case, bound) in loosenings.iter().zip(LOOSEN_BOUNDS) {
+        table.bounded("loosen", case.name, TWIN_LIMIT, |side| loosening(side, case), bound);
     }
     for run in &runs {
         table.twins("parse", &format!("{}, a text of {} bytes", run.name, run.text.len()), TWIN_LIMIT, |side| parsing(side, &run.text));

@@ -34,6 +34,20 @@ extern "C" {
 
     fn koodhaxil_check(n: usize, t: *const u8, t_len: usize, body: *const u8, body_len: usize, values: *mut usize, values_len: usize) -> usize;
 
+    fn koodhaxil_loosen(
+        n: usize,
+        t: *const u8,
+        t_len: usize,
+        body: *const u8,
+        body_len: usize,
+        room: *mut u8,
+        room_len: usize,
+        list: *mut u64,
+        list_len: usize,
+        values: *mut usize,
+        values_len: usize,
+    ) -> usize;
+
     fn koodhaxil_parse(n: usize, text: *const u8, text_len: usize, room: *mut u8, room_len: usize, values: *mut usize, values_len: usize) -> usize;
 
     fn koodhaxil_render(n: usize, body: *const u8, body_len: usize, room: *mut u8, room_len: usize, values: *mut usize, values_len: usize) -> usize;
@@ -81,6 +95,14 @@ pub fn veto(n: usize, set: u64, t: &[u8], room: &mut [u8], values: &mut [usize])
 pub fn check(n: usize, t: &[u8], body: &[u8], values: &mut [usize]) -> usize {
     // SAFETY: as above.
     unsafe { koodhaxil_check(n, t.as_ptr(), t.len(), body.as_ptr(), body.len(), values.as_mut_ptr(), values.len()) }
+}
+
+/// Loosens the candidate of a body by the table `t` over `n` species, into the front of `room`, and the dropped sets into the front of `list`: the
+/// number and the values as for `read`.
+pub fn loosen(n: usize, t: &[u8], body: &[u8], room: &mut [u8], list: &mut [u64], values: &mut [usize]) -> usize {
+    let (room_at, list_at, values_at) = (room.as_mut_ptr(), list.as_mut_ptr(), values.as_mut_ptr());
+    // SAFETY: as above; the length of `list` is its number of places.
+    unsafe { koodhaxil_loosen(n, t.as_ptr(), t.len(), body.as_ptr(), body.len(), room_at, room.len(), list_at, list.len(), values_at, values.len()) }
 }
 
 /// Reads a Newick text over `n` species as a body, into the front of `room`: the number and the values as for `read`.

@@ -103,6 +103,22 @@ pub fn render(n: usize, body: &[u8], room: usize) -> (Told, Option<Vec<u8>>) {
     written(room, 1, |room| operations::render(n as u64, body, room))
 }
 
+/// What loosening a body by a table over `n` species tells, with `room` bytes and `list` places to write to, and what is written to their fronts.
+pub fn loosen(n: usize, table: &[u8], body: &[u8], room: usize, list: usize) -> (Told, Option<Vec<u8>>, Vec<u64>) {
+    let mut list = vec![0; list];
+    let mut dropped = 0;
+    let (mut told, tree) = written(room, 2, |room| {
+        let (nodes, sets) = operations::loosen(n as u64, table, body, room, &mut list)?;
+        dropped = sets;
+        Ok(nodes)
+    });
+    if tree.is_some() {
+        told.values.push(dropped);
+    }
+    list.truncate(dropped);
+    (told, tree, list)
+}
+
 /// What checking a body against a table over `n` species tells.
 pub fn check(n: usize, table: &[u8], body: &[u8]) -> Told {
     match operations::check(n as u64, table, body) {

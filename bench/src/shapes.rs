@@ -104,6 +104,16 @@ pub fn text(body: &[u8]) -> Vec<u8> {
     format!("{};", subtree(body, 0)).into_bytes()
 }
 
+// The body of a lone leaf.
+fn leaf(s: u8) -> Vec<u8> {
+    vec![255, s]
+}
+
+/// The body of a tree with so many consecutive species as leaves under its root, in house order.
+pub fn star(first: u8, count: u8) -> Vec<u8> {
+    joined(&(first..first + count).map(leaf).collect::<Vec<_>>())
+}
+
 /// A table of 64 species that quarrels, and the body of the tree that the veto build gives.
 pub struct Quarrel {
     pub name: &'static str,
@@ -113,8 +123,6 @@ pub struct Quarrel {
 
 /// A quarrel at the end of all splitting, and one in each of many parts.
 pub fn quarrels() -> [Quarrel; 2] {
-    let leaf = |s: u8| vec![255, s];
-    let star = |first: u8, count: u8| joined(&(first..first + count).map(leaf).collect::<Vec<_>>());
     // ((..((0,1,2),3)..),63)
     let nested = (3..64).fold(star(0, 3), |tree, s| joined(&[tree, leaf(s)]));
     // Each two neighbours under a node, again and again.
@@ -192,4 +200,36 @@ pub fn candidates() -> [Candidate; 4] {
             values: &[22_100],
         },
     ]
+}
+
+/// A candidate of 64 species and a table to loosen it by, with the body of the final tree and the dropped sets.
+pub struct Loosening {
+    pub name: &'static str,
+    pub body: Vec<u8>,
+    pub table: Vec<u8>,
+    pub tree: Vec<u8>,
+    pub dropped: Vec<u64>,
+}
+
+/// A candidate that loses every group but the root's, and two that pass the check.
+pub fn loosenings() -> [Loosening; 3] {
+    let [nested, each, balanced, _] = candidates();
+    let passes = |candidate: Candidate| Loosening {
+        name: candidate.name,
+        tree: candidate.body.clone(),
+        body: candidate.body,
+        table: candidate.table,
+        dropped: vec![],
+    };
+    // Entered: (c-2,c-1)|c for c from 3 to 63. Nothing links 0, so that no group is earned. The first one in house order is the largest that is left.
+    let mut table = each.table;
+    table[0] = 0;
+    let bare = Loosening {
+        name: "nested, 62 sets dropped",
+        body: each.body,
+        table,
+        tree: star(0, 64),
+        dropped: (2..64).rev().map(|count| (1 << count) - 1).collect(),
+    };
+    [bare, passes(nested), passes(balanced)]
 }

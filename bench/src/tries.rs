@@ -15,6 +15,8 @@ mod entered;
 mod grammar;
 #[path = "../../second/src/limits.rs"]
 mod limits;
+#[path = "../../second/src/loosening.rs"]
+mod loosening;
 #[path = "../../second/src/newick.rs"]
 mod newick;
 #[allow(dead_code)]
@@ -36,7 +38,7 @@ mod writer;
 
 use plain::Told;
 use random::Random;
-use shapes::{body, candidates, collection, joined, shuffled, text, Dice, Shape, SEED, SHAPES};
+use shapes::{body, candidates, collection, joined, loosenings, shuffled, star, text, Dice, Shape, SEED, SHAPES};
 use std::fmt::Debug;
 use std::hint::black_box;
 use trees::Tree;
@@ -48,9 +50,11 @@ const BODIES: usize = 50_000;
 const TABLES: usize = 50_000;
 const TREES: usize = 5_000;
 const CANDIDATES: usize = 30_000;
+const LOOSENINGS: usize = 30_000;
 const TEXTS: usize = 50_000;
 const NUMBERS: usize = 17;
 const MOST_VALUES: usize = 6;
+const LEAST_LIST: usize = 62;
 const SHOWN: usize = 3;
 
 // What is called, and on what; the last number is the length of the table or room that is lent, where one is.
@@ -65,6 +69,8 @@ enum Call<'a> {
     Veto(usize, u64, &'a [u8], usize),
     // A table and a body, which are only read.
     Check(usize, &'a [u8], &'a [u8]),
+    // The same, and the lengths of the room and of the list.
+    Loosen(usize, &'a [u8], &'a [u8], usize, usize),
     Parse(usize, &'a [u8], usize),
     Render(usize, &'a [u8], usize),
     // An index; its answer, yes or no, is the number.
@@ -76,6 +82,7 @@ struct Outcome {
     number: usize,
     values: Vec<usize>,
     lent: Vec<u8>,
+    list: Vec<u64>,
 }
 
 #[derive(Default)]
@@ -86,41 +93,53 @@ struct Tally {
 }
 
 impl Tally {
-    // One call with `places` places for values. The front of what is lent is to become `filled`; what is behind it, or all, is to stay. To the check
-    // a copy of the table and the body is lent, and it is to stay too.
+    // One call with `places` places for values. The front of what is lent is to become `filled`; what is behind it, or all, is to stay.
     fn call(&mut self, name: &str, call: Call, places: usize, told: &Told, filled: Option<&[u8]>) {
-        let room = match call {
-            Call::Read(_) | Call::Check(..) | Call::Triple(_) => 0,
-            Call::List(_, room) | Call::Enter(_, _, room) | Call::Build(_, _, _, room) | Call::Veto(_, _, _, room) => room,
-            Call::Order(_, _, room) | Call::Parse(_, _, room) | Call::Render(_, _, room) => room,
+        self.call_with_list(name, call, places, told, filled, &[]);
+    }
+
+    // The same; the front of the lent list is to become `dropped`. The check and loosening are handed a copy of the table and the body, which stands
+    // before what is lent, and is to stay too.
+    fn call_with_list(&mut self, name: &str, call: Call, places: usize, told: &Told, filled: Option<&[u8]>, dropped: &[u64]) {
+        let (room, list) = match call {
+            Call::Read(_) | Call::Check(..) | Call::Triple(_) => (0, 0),
+            Call::List(_, room) | Call::Enter(_, _, room) | Call::Build(_, _, _, room) | Call::Veto(_, _, _, room) => (room, 0),
+            Call::Order(_, _, room) | Call::Parse(_, _, room) | Call::Render(_, _, room) => (room, 0),
+            Call::Loosen(_, _, _, room, list) => (room, list),
         };
         let mut values: Vec<usize> = (0..places).map(|i| 9_000_000_000 + i).collect();
-        let mut lent: Vec<u8> = (0..room).map(|i| (i % 251) as u8 ^ 0xa5).collect();
-        if let Call::Check(_, table, body) = call {
-            lent = [table, body].concat();
-        }
-        let mut wanted = Outcome { number: told.number, values: values.clone(), lent: lent.clone() };
+        let mut list: Vec<u64> = (0..list).map(|i| !(i as u64 * 0x0101_0101_0101_0101)).collect();
+        let mut lent = match call {
+            Call::Check(_, table, body) | Call::Loosen(_, table, body, ..) => [table, body].concat(),
+            _ => vec![],
+        };
+        let from = lent.len();
+        lent.extend((0..room).map(|i| (i % 251) as u8 ^ 0xa5));
+        let mut wanted = Outcome { number: told.number, values: values.clone(), lent: lent.clone(), list: list.clone() };
         for (place, x) in wanted.values.iter_mut().zip(&told.values) {
             *place = *x;
         }
         if let Some(filled) = filled {
-            wanted.lent[..filled.len()].copy_from_slice(filled);
+            wanted.lent[from..from + filled.len()].copy_from_slice(filled);
         }
+        wanted.list[..dropped.len()].copy_from_slice(dropped);
+        let (read, room) = lent.split_at_mut(from);
         let number = match call {
             Call::Read(bytes) => boundary::read(bytes, &mut values),
-            Call::List(bytes, _) => boundary::list(bytes, &mut lent, &mut values),
-            Call::Enter(n, records, _) => boundary::enter(n, records, &mut lent, &mut values),
-            Call::Order(n, body, _) => boundary::order(n, body, &mut lent, &mut values),
-            Call::Build(n, set, table, _) => boundary::build(n, set, table, &mut lent, &mut values),
-            Call::Veto(n, set, table, _) => boundary::veto(n, set, table, &mut lent, &mut values),
-            Call::Check(n, table, _) => boundary::check(n, &lent[..table.len()], &lent[table.len()..], &mut values),
-            Call::Parse(n, text, _) => boundary::parse(n, text, &mut lent, &mut values),
-            Call::Render(n, body, _) => boundary::render(n, body, &mut lent, &mut values),
+            Call::List(bytes, _) => boundary::list(bytes, room, &mut values),
+            Call::Enter(n, records, _) => boundary::enter(n, records, room, &mut values),
+            Call::Order(n, body, _) => boundary::order(n, body, room, &mut values),
+            Call::Build(n, set, table, _) => boundary::build(n, set, table, room, &mut values),
+            Call::Veto(n, set, table, _) => boundary::veto(n, set, table, room, &mut values),
+            Call::Check(n, table, _) => boundary::check(n, &read[..table.len()], &read[table.len()..], &mut values),
+            Call::Loosen(n, table, ..) => boundary::loosen(n, &read[..table.len()], &read[table.len()..], room, &mut list, &mut values),
+            Call::Parse(n, text, _) => boundary::parse(n, text, room, &mut values),
+            Call::Render(n, body, _) => boundary::render(n, body, room, &mut values),
             Call::Triple(index) => boundary::triple(index, &mut values),
         };
         // The compiler would take it that what is only read stays as it was.
         black_box(&mut lent);
-        let got = Outcome { number, values, lent };
+        let got = Outcome { number, values, lent, list };
         self.cases += 1;
         self.part += 1;
         if got != wanted {
@@ -194,8 +213,43 @@ impl Tally {
         }
     }
 
+    // Loosening drops nothing of what passes, and something where a triplet is not forced; every other refusal of the check is its own too.
     fn checked(&mut self, name: &str, n: usize, table: &[u8], body: &[u8], number: usize, values: &[usize]) {
         self.calls(name, Call::Check(n, table, body), number, values, None);
+        if number == 0 {
+            self.loosened(name, n, table, body, &plain::order(n, body, body.len()).1.unwrap(), &[]);
+        } else if number == 12 {
+            let (_, tree, dropped) = plain::loosen(n, table, body, body.len(), LEAST_LIST);
+            assert!(!dropped.is_empty(), "the second program drops nothing where a triplet is not forced");
+            self.loosened(name, n, table, body, &tree.unwrap(), &dropped);
+        } else {
+            for (room, list) in [(0, 0), (body.len(), LEAST_LIST - 1), (body.len() + 1, LEAST_LIST)] {
+                self.calls(name, Call::Loosen(n, table, body, room, list), number, values, None);
+            }
+        }
+    }
+
+    // The final tree and the dropped sets, with rooms and lists of the least length and of some more.
+    fn loosened(&mut self, name: &str, n: usize, table: &[u8], body: &[u8], tree: &[u8], dropped: &[u64]) {
+        for more in [0, 1, 2, 300] {
+            self.loosened_into(name, Call::Loosen(n, table, body, body.len() + more, LEAST_LIST + more), tree, dropped);
+        }
+    }
+
+    // One call that is to give what the second program gives. Returns the final tree where there is one.
+    fn loosen(&mut self, name: &str, n: usize, table: &[u8], body: &[u8], room: usize, list: usize, loose: &mut Loose) -> Option<Vec<u8>> {
+        let (told, tree, dropped) = plain::loosen(n, table, body, room, list);
+        loose.count(&told);
+        self.call_with_list(name, Call::Loosen(n, table, body, room, list), self.cases % (MOST_VALUES + 1), &told, tree.as_deref(), &dropped);
+        tree
+    }
+
+    // One call with every number of places for values.
+    fn loosened_into(&mut self, name: &str, call: Call, tree: &[u8], dropped: &[u64]) {
+        let told = Told { number: 0, values: vec![tree.len() / 2, dropped.len()] };
+        for places in 0..=MOST_VALUES {
+            self.call_with_list(name, call, places, &told, Some(tree), dropped);
+        }
     }
 
     fn parsed(&mut self, n: usize, text: &str, body: &[u8]) {
@@ -245,6 +299,27 @@ impl Answers {
     }
 }
 
+// The same of loosening, and how often 0 to 8 sets were dropped, and more.
+#[derive(Default)]
+struct Loose {
+    answers: Answers,
+    dropped: [usize; 10],
+}
+
+impl Loose {
+    fn count(&mut self, told: &Told) {
+        self.answers.count(told);
+        if told.number == 0 {
+            self.dropped[told.values[1].min(9)] += 1;
+        }
+    }
+
+    fn show(&self) {
+        self.answers.show("loosening");
+        println!("  of 0, with 0 to 8 and with more sets dropped: {:?}", self.dropped);
+    }
+}
+
 // The longest collection has 4,099 bytes; what is longer is one of the fixed list, known by its name, or a random table of over 30 species.
 fn start<T: Debug>(items: &[T]) -> String {
     format!("{:?}{}", &items[..items.len().min(4200)], if items.len() > 4200 { " and so on" } else { "" })
@@ -260,6 +335,9 @@ fn show(name: &str, call: Call, places: usize, wanted: &Outcome, got: &Outcome) 
         Call::Build(n, set, table, room) => (format!("build, n {n}, set {set}, room of {room} bytes"), table.len(), start(table)),
         Call::Veto(n, set, table, room) => (format!("veto, n {n}, set {set}, room of {room} bytes"), table.len(), start(table)),
         Call::Check(n, table, body) => (format!("check, n {n}, body {}", start(body)), table.len(), start(table)),
+        Call::Loosen(n, table, body, room, list) => {
+            (format!("loosen, n {n}, body {}, room of {room} bytes, list of {list} places", start(body)), table.len(), start(table))
+        }
         Call::Parse(n, text, room) => (format!("parse, n {n}, room of {room} bytes"), text.len(), format!("{:?}", String::from_utf8_lossy(text))),
         Call::Render(n, body, room) => (format!("render, n {n}, room of {room} bytes"), body.len(), start(body)),
         Call::Triple(index) => (format!("triple, index {index}"), 0, String::new()),
@@ -268,9 +346,14 @@ fn show(name: &str, call: Call, places: usize, wanted: &Outcome, got: &Outcome) 
     println!("  {length} long: {items}");
     println!("  wanted: number {}, values {:?}", wanted.number, wanted.values);
     println!("  got:    number {}, values {:?}", got.number, got.values);
-    let places: Vec<usize> = (0..wanted.lent.len()).filter(|&i| wanted.lent[i] != got.lent[i]).collect();
+    show_lent("table, body or room", &wanted.lent, &got.lent);
+    show_lent("list", &wanted.list, &got.list);
+}
+
+fn show_lent<T: Debug + PartialEq>(what: &str, wanted: &[T], got: &[T]) {
+    let places: Vec<usize> = (0..wanted.len()).filter(|&i| wanted[i] != got[i]).collect();
     if let Some(&i) = places.first() {
-        println!("  table, room or body: {} bytes differ, the first at {i}: wanted {}, got {}", places.len(), wanted.lent[i], got.lent[i]);
+        println!("  {what}: {} places differ, the first at {i}: wanted {:?}, got {:?}", places.len(), wanted[i], got[i]);
     }
 }
 
@@ -823,10 +906,8 @@ fn tables_built(tally: &mut Tally) {
     tally.built("((0,1),(2,3))", 4, &[1, 1, 4, 4], &[255, 255, 0, 255, 1, 0, 1, 1, 0, 255, 4, 2, 4, 3]);
     tally.built("04|1 of 5", 5, &[0, 0, 0, 0, 2, 0, 0, 0, 0, 0], &[255, 255, 0, 255, 1, 0, 1, 4, 0, 1, 0, 2, 0, 3]);
     tally.built("the run with n = 6", 6, &SIX_TABLE, &SIX);
-    let mut fan = vec![255, 255];
-    fan.extend((0..64).flat_map(|s| [0, s]));
-    tally.built("n 64, nothing entered", 64, &[0; 41_664], &fan);
-    tally.built("n 64, fans", 64, &[8; 41_664], &fan);
+    tally.built("n 64, nothing entered", 64, &[0; 41_664], &star(0, 64));
+    tally.built("n 64, fans", 64, &[8; 41_664], &star(0, 64));
     tally.built("all of ((((0,1),2),3)..,63)", 64, &[1; 41_664], &nested_house());
     let mut table = vec![0; 41_664];
     table[41_663] = 1;
@@ -851,12 +932,12 @@ fn tables_vetoed(tally: &mut Tally) {
     for byte in [3, 5, 6, 7, 11, 13, 14, 15] {
         tally.vetoed("two or three of a triple", 3, 7, &[byte], &FAN);
     }
-    let star = [255, 255, 0, 0, 0, 1, 0, 2, 0, 3];
+    let fan = [255, 255, 0, 0, 0, 1, 0, 2, 0, 3];
     tally.vetoed("01|2 and 02|1 of 4", 4, 15, &[3, 0, 0, 0], &[255, 255, 0, 255, 1, 0, 1, 1, 1, 2, 0, 3]);
     tally.vetoed("13|2 and 23|1 of 4", 4, 15, &[0, 0, 0, 6], &[255, 255, 0, 0, 0, 255, 2, 1, 2, 2, 2, 3]);
-    tally.vetoed("01|2, 03|1 and 12|3", 4, 15, &[1, 2, 0, 1], &star);
-    tally.vetoed("01|2, 01|3, 23|0 and 13|2: not split again", 4, 15, &[1, 1, 4, 2], &star);
-    tally.vetoed("all of 4", 4, 15, &[7; 4], &star);
+    tally.vetoed("01|2, 03|1 and 12|3", 4, 15, &[1, 2, 0, 1], &fan);
+    tally.vetoed("01|2, 01|3, 23|0 and 13|2: not split again", 4, 15, &[1, 1, 4, 2], &fan);
+    tally.vetoed("all of 4", 4, 15, &[7; 4], &fan);
     tally.vetoed("far down", 5, 31, &[3, 1, 1, 1, 1, 1, 1, 1, 1, 1], &[255, 255, 0, 255, 1, 255, 2, 0, 2, 1, 2, 2, 1, 3, 0, 4]);
     let mut table = [0; 20];
     (table[0], table[19]) = (5, 3);
@@ -867,9 +948,7 @@ fn tables_vetoed(tally: &mut Tally) {
     tally.vetoed("a deep set and a high one", 7, 127, &table, &[255, 255, 0, 255, 1, 255, 2, 0, 2, 1, 2, 2, 1, 3, 0, 255, 7, 4, 7, 5, 7, 6]);
     tally.vetoed("01|3 and 03|1, over the three", 4, 11, &[0, 3, 0, 0], &[255, 255, 0, 0, 0, 1, 0, 3]);
     tally.vetoed("14|2 and 24|1, and 0 beside them", 5, 23, &[0, 0, 0, 0, 0, 0, 6, 0, 0, 0], &[255, 255, 0, 0, 0, 255, 2, 1, 2, 2, 2, 4]);
-    let mut star = vec![255, 255];
-    star.extend((0..64).flat_map(|s| [0, s]));
-    tally.vetoed("all of 64", 64, u64::MAX, &[7; 41_664], &star);
+    tally.vetoed("all of 64", 64, u64::MAX, &[7; 41_664], &star(0, 64));
     for quarrel in shapes::quarrels() {
         let (_, house) = plain::order(64, &quarrel.body, 254);
         tally.vetoed(quarrel.name, 64, u64::MAX, &quarrel.table, &house.unwrap());
@@ -921,7 +1000,7 @@ fn candidates_refused(tally: &mut Tally) {
             tally.checked(name, n, &vec![byte; fitting(n)], body, 6, &[0, node, fault, carried]);
         }
     }
-    tally.end_part("candidates and tables to check, refused");
+    tally.end_part("candidates and tables to check and to loosen, refused");
 }
 
 fn candidates_checked(tally: &mut Tally) {
@@ -1015,15 +1094,13 @@ fn candidates_checked(tally: &mut Tally) {
     tally.checked("two trees, the candidate ((0,1,2,3),(4,5))", 6, &both, &flat, 12, &[7]);
     let half = [255, 255, 0, 255, 1, 255, 2, 0, 2, 3, 1, 1, 1, 2, 0, 255, 7, 4, 7, 5];
     tally.checked("two trees, the candidate (((0,3),1,2),(4,5))", 6, &both, &half, 0, &[]);
-    tally.end_part("candidates checked, answers written out");
+    tally.end_part("candidates checked, answers written out, and loosened");
 }
 
 fn candidates_of_64(tally: &mut Tally) {
-    let mut star = vec![255, 255];
-    star.extend((0..64).flat_map(|s| [0, s]));
     let nested = nested_house();
     for byte in [0, 1, 7, 8, 15] {
-        tally.checked("the star of 64", 64, &[byte; 41_664], &star, 0, &[]);
+        tally.checked("the star of 64", 64, &[byte; 41_664], &star(0, 64), 0, &[]);
         tally.checked("the lone leaf 63 of 64", 64, &[byte; 41_664], &[255, 63], 0, &[]);
     }
     let last = [255, 255, 0, 255, 1, 61, 1, 62, 0, 63];
@@ -1051,7 +1128,62 @@ fn candidates_of_64(tally: &mut Tally) {
     let mut table = second.table;
     table[fitting(40) + 39 * 38 / 2 + 38] = 0;
     tally.checked("nested, each c but 40 with the two before it", 64, &table, &nested, 12, &[9_880]);
-    tally.end_part("candidates of 64 species checked, answers written out");
+    tally.end_part("candidates of 64 species checked, answers written out, and loosened");
+}
+
+fn candidates_loosened(tally: &mut Tally) {
+    // No triplet is entered: every group but the root's goes.
+    for byte in [0, 8] {
+        tally.loosened("01|2, nothing entered", 3, &[byte], &CLOSE, &FAN, &[3]);
+        tally.loosened("02|1, nothing entered", 3, &[byte], &APART, &FAN, &[5]);
+        tally.loosened("12|0, nothing entered", 3, &[byte], &HIGH, &FAN, &[6]);
+        tally.loosened("(((0,1),2),3), nothing entered", 4, &[byte; 4], &LADDER, &star(0, 4), &[7, 3]);
+        let halves = [255, 255, 0, 255, 0, 255, 1, 3, 2, 1, 1, 2, 2, 0];
+        tally.loosened("((3,2),(1,0)), which is not in house order", 4, &[byte; 4], &halves, &star(0, 4), &[3, 12]);
+        let apart = [255, 255, 0, 255, 1, 0, 1, 3, 0, 1, 0, 2];
+        tally.loosened("((0,3),1,2): 3 goes behind 1 and 2", 4, &[byte; 4], &apart, &star(0, 4), &[9]);
+        let sorted = [255, 255, 0, 255, 1, 0, 1, 255, 3, 4, 3, 5, 0, 1, 0, 255, 7, 2, 7, 3];
+        tally.loosened("((0,(4,5)),1,(2,3)): (4,5) goes behind (2,3)", 6, &[byte; 20], &sorted, &star(0, 6), &[49, 12, 48]);
+    }
+    tally.loosened("01|2 of 4, everything elsewhere", 4, &[8, 7, 15, 7], &CLOSE, &FAN, &[3]);
+    let pair = [255, 255, 0, 255, 1, 0, 1, 1, 0, 2, 0, 3];
+    let wide = [255, 255, 0, 255, 1, 0, 1, 1, 1, 2, 0, 3];
+    tally.loosened("01|2: (0,1) is earned at first", 4, &[1, 0, 0, 0], &LADDER, &star(0, 4), &[7, 3]);
+    tally.loosened("01|2 and 01|3", 4, &[1, 1, 0, 0], &LADDER, &pair, &[7]);
+    tally.loosened("01|2 and 01|3, and fans", 4, &[9, 9, 8, 8], &LADDER, &pair, &[7]);
+    tally.loosened("01|3 and 12|3", 4, &[0, 1, 0, 1], &LADDER, &wide, &[3]);
+    tally.loosened("01|3 and 02|3", 4, &[0, 1, 1, 0], &LADDER, &wide, &[3]);
+    tally.loosened("01|3, and 01|2 not entered", 4, &[0, 1, 4, 4], &pair, &star(0, 4), &[3]);
+    // Of (((0,1),2,4),3) first (0,1) goes, since 01|4 is not entered. Then 01|2 is not in R any more, and nothing links 0 to the others.
+    let afresh = [255, 255, 0, 255, 1, 255, 2, 0, 2, 1, 1, 2, 1, 4, 0, 3];
+    tally.loosened("01|2, 12|3 and 24|3: R afresh", 5, &[1, 0, 0, 1, 0, 0, 0, 0, 0, 2], &afresh, &star(0, 5), &[3, 23]);
+    // The run with n = 6: nothing says where 2 stands to 3, 4 and 5.
+    let six = [255, 255, 0, 255, 1, 0, 1, 1, 0, 2, 0, 3, 0, 4, 0, 5];
+    tally.loosened("the run with n = 6", 6, &SIX_TABLE, &SIX, &six, &[56, 48]);
+    for case in loosenings() {
+        let (_, house) = plain::order(64, &case.tree, 254);
+        tally.loosened(case.name, 64, &case.table, &case.body, &house.unwrap(), &case.dropped);
+    }
+    let [bare, ..] = loosenings();
+    tally.loosened("nested, nothing entered", 64, &[8; 41_664], &bare.body, &star(0, 64), &bare.dropped);
+    tally.end_part("candidates loosened, trees and sets written out");
+
+    // Every list up to 70 places; every room up to two bytes more than 14, or rooms about 254. The final tree is shorter, and fits long before.
+    let short = (4, &[0; 4][..], &LADDER[..], star(0, 4), &[7, 3][..], (0..=16).collect::<Vec<_>>());
+    let long = (64, &bare.table[..], &bare.body[..], star(0, 64), &bare.dropped[..], vec![0, 129, 130, 252, 253, 254, 255, 300]);
+    for (n, table, body, tree, dropped, rooms) in [short, long] {
+        for room in rooms {
+            for list in 0..=70 {
+                let call = Call::Loosen(n, table, body, room, list);
+                if room < body.len() || list < LEAST_LIST {
+                    tally.calls("room or list too short", call, 9, &[], None);
+                } else {
+                    tally.loosened_into("room and list long enough", call, &tree, dropped);
+                }
+            }
+        }
+    }
+    tally.end_part("candidates to loosen, every list up to 70 places");
 }
 
 fn texts_refused(tally: &mut Tally) {
@@ -1259,7 +1391,7 @@ fn small_tables(n: usize) -> impl Iterator<Item = Vec<u8>> {
 
 // Every candidate of up to 4 species against every table.
 fn small_candidates(tally: &mut Tally) {
-    let mut answers = Answers::default();
+    let (mut answers, mut loose) = (Answers::default(), Loose::default());
     for (n, count) in [(1, 1), (2, 3), (3, 10), (4, 52)] {
         let candidates = all_candidates(n);
         assert_eq!(candidates.len(), count, "the trees of some of {n} species");
@@ -1268,10 +1400,12 @@ fn small_candidates(tally: &mut Tally) {
                 let told = plain::check(n, &table, body);
                 answers.count(&told);
                 tally.call("a small candidate", Call::Check(n, &table, body), tally.cases % (MOST_VALUES + 1), &told, None);
+                tally.loosen("a small candidate", n, &table, body, body.len(), LEAST_LIST, &mut loose);
             }
         }
     }
     answers.show("checking");
+    loose.show();
     tally.end_part("every candidate of up to 4 species and every table, against the second program");
 }
 
@@ -1301,9 +1435,10 @@ fn small_sets(tally: &mut Tally) {
     tally.end_part("every table of up to 4 species and every set, against the second program");
 }
 
-// Every candidate of 5 species against every part of its own table. Anything else that is entered fails PC or is not in R, so PI meets no other R.
+// Every candidate of 5 species against every part of its own table. Anything else that is entered fails PC or is not in R, so PI and
+// loosening meet no other R.
 fn parts_of_own_tables(tally: &mut Tally) {
-    let mut answers = Answers::default();
+    let (mut answers, mut loose) = (Answers::default(), Loose::default());
     let candidates = all_trees(&[0, 1, 2, 3, 4]);
     assert_eq!(candidates.len(), 236, "the trees of 5 species");
     for body in candidates {
@@ -1317,9 +1452,11 @@ fn parts_of_own_tables(tally: &mut Tally) {
             let told = plain::check(5, &table, &body);
             answers.count(&told);
             tally.call("a part of the own table", Call::Check(5, &table, &body), tally.cases % (MOST_VALUES + 1), &told, None);
+            tally.loosen("a part of the own table", 5, &table, &body, body.len(), LEAST_LIST, &mut loose);
         }
     }
     answers.show("checking");
+    loose.show();
     tally.end_part("every candidate of 5 species and every part of its own table, against the second program");
 }
 
@@ -1714,6 +1851,56 @@ fn random_candidates(tally: &mut Tally) {
     tally.end_part(&format!("{CANDIDATES} random candidates, seed {SEED}, against the second program"));
 }
 
+// A candidate that no entered triplet contradicts, and its table.
+fn random_loosening(n: usize, dice: &mut Dice) -> (Vec<u8>, Vec<u8>, &'static str) {
+    if dice.below(4) == 0 {
+        let table = random_table(n, dice).0;
+        let built = plain::veto(n, all(n), &table, 4 * n - 2).1;
+        return (built.unwrap(), table, "the tree built with a veto");
+    }
+    // Some of the tree's own triplets, from all to a few, and anything of the triples that it does not resolve.
+    let body = random_body(n, dice.below(2) == 0, dice);
+    let left = [100, 97, 90, 80, 65, 50, 30, 10][dice.below(8)];
+    let own = triplets_of(n, &body);
+    let fan = |dice: &mut Dice| 8 * dice.below(2) as u8;
+    let entered = own.iter().map(|&own| match own {
+        0 => dice.below(16) as u8,
+        _ if dice.below(100) < left => own + fan(dice),
+        _ => fan(dice),
+    });
+    let table = entered.collect();
+    (body, table, "a tree and some of its own triplets")
+}
+
+// What is loosened passes the check, and nothing of it is dropped again.
+fn random_loosenings(tally: &mut Tally) {
+    let mut dice = Dice(SEED);
+    let mut loose = Loose::default();
+    let passes = Told { number: 0, values: vec![] };
+    for _ in 0..LOOSENINGS {
+        let mut n = random_n(&mut dice);
+        let (mut bytes, mut table, mut kind) = random_loosening(n, &mut dice);
+        match dice.below(16) {
+            0 => kind = damage_table(&mut n, &mut table, &mut dice),
+            1 => kind = damage(&mut bytes, &mut dice),
+            2 if !table.is_empty() => {
+                let place = dice.below(table.len());
+                table[place] ^= 1 << dice.below(4);
+                kind = "a bit changed";
+            }
+            _ => {}
+        }
+        let room = random_body_room(bytes.len().max(2), &mut dice);
+        let list = if dice.below(16) == 0 { dice.below(LEAST_LIST) } else { LEAST_LIST + dice.below(9) };
+        if let Some(tree) = tally.loosen(kind, n, &table, &bytes, room, list, &mut loose) {
+            tally.call("a loosened tree, checked", Call::Check(n, &table, &tree), MOST_VALUES, &passes, None);
+            tally.loosened_into("a loosened tree, loosened again", Call::Loosen(n, &table, &tree, tree.len(), LEAST_LIST), &tree, &[]);
+        }
+    }
+    loose.show();
+    tally.end_part(&format!("{LOOSENINGS} random candidates loosened, seed {SEED}, against the second program, then checked and loosened again"));
+}
+
 fn random_texts(tally: &mut Tally) {
     let (mut dice, mut random) = (Dice(SEED), Random::new(SEED));
     let mut answers = Answers::default();
@@ -1792,9 +1979,11 @@ fn main() {
     candidates_refused(&mut tally);
     candidates_checked(&mut tally);
     candidates_of_64(&mut tally);
+    candidates_loosened(&mut tally);
     small_candidates(&mut tally);
     parts_of_own_tables(&mut tally);
     random_candidates(&mut tally);
+    random_loosenings(&mut tally);
     texts_refused(&mut tally);
     texts_parsed(&mut tally);
     random_texts(&mut tally);

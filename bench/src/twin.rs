@@ -7,6 +7,7 @@ const MOST_BYTES: usize = 4096;
 const MOST_OPEN: usize = 63;
 const MOST_SPECIES: usize = 254;
 const MOST_TEXT: usize = 308;
+const MOST_DROPPED: usize = 62;
 
 enum Fault {
     BadParent(u8),
@@ -36,6 +37,7 @@ enum Answer {
     NoTree(u64),
     Written(usize),
     Passes,
+    Loosened { nodes: usize, dropped: usize },
     Contradicted { index: usize, byte: u8 },
     Unforced(usize),
     BadRecord(usize),
@@ -537,6 +539,13 @@ fn bad_body(n: usize, body: &[u8]) -> Option<Answer> {
     first_fault(0, n, body).map(Answer::BadTree)
 }
 
+// Writes the tree of a good body in house order. Returns the node count.
+fn arrange(body: &[u8], out: &mut [u8]) -> usize {
+    let mut groups = [0; 127];
+    groups_of(body, &mut groups);
+    put(body, &groups, 0, NONE, 0, out)
+}
+
 fn order_answer(n: usize, body: &[u8], out: &mut [u8]) -> Answer {
     if let Some(refused) = bad_body(n, body) {
         return refused;
@@ -544,9 +553,7 @@ fn order_answer(n: usize, body: &[u8], out: &mut [u8]) -> Answer {
     if out.len() < body.len() {
         return Answer::ShortRoom;
     }
-    let mut groups = [0; 127];
-    groups_of(body, &mut groups);
-    Answer::Written(put(body, &groups, 0, NONE, 0, out))
+    Answer::Written(arrange(body, out))
 }
 
 // ---- splitting a set, and building
@@ -856,17 +863,22 @@ fn beside_all(body: &[u8], groups: &[u64; 127], masks: &[u64; 4096], i: usize) -
     true
 }
 
-// Is each group but the root's joined beside every sibling? A leaf's always is.
-fn earned(body: &[u8], groups: &[u64; 127], masks: &[u64; 4096]) -> bool {
+// The first node but the root whose group is not joined beside every sibling; 0 where there is none. A leaf's always is.
+fn first_unearned(body: &[u8], groups: &[u64; 127], masks: &[u64; 4096]) -> usize {
     let count = node_count(body);
     let mut i = 1;
     while i < count {
         if species(body, i) == NONE && !beside_all(body, groups, masks, i) {
-            return false;
+            return i;
         }
         i += 1;
     }
-    true
+    0
+}
+
+// Is each group but the root's joined beside every sibling?
+fn earned(body: &[u8], groups: &[u64; 127], masks: &[u64; 4096]) -> bool {
+    first_unearned(body, groups, masks) == 0
 }
 
 // The parts of a and of c in s.
@@ -923,24 +935,27 @@ fn first_unforced(n: usize, whole: u64, meets: &[u64; 4096], masks: &[u64; 4096]
     found
 }
 
-fn check_answer(n: usize, t: &[u8], body: &[u8]) -> Answer {
-    if let Some(refusal) = table_refusal(n, t) {
+// Why a candidate is not taken, or what contradicts it. Where nothing does, its groups and its common groups are found.
+fn candidate_refusal(n: usize, t: &[u8], body: &[u8], groups: &mut [u64; 127], meets: &mut [u64; 4096]) -> Option<Answer> {
+    let refusal = table_refusal(n, t).or_else(|| bad_body(n, body));
+    if refusal.is_some() {
         return refusal;
     }
-    if bad_length(body.len()) {
-        return Answer::BadLength(0);
+    groups_of(body, groups);
+    pairs(body, groups, meets);
+    match first_contradiction(n, t, groups[0], meets) {
+        Found::At { a, b, c } => Some(Answer::Contradicted { index: index(a, b, c), byte: byte(t, a, b, c) }),
+        Found::Nowhere => None,
     }
-    if let Some(x) = first_fault(0, n, body) {
-        return Answer::BadTree(x);
-    }
+}
+
+fn check_answer(n: usize, t: &[u8], body: &[u8]) -> Answer {
     let mut groups = [0; 127];
     let mut meets = [0; 4096];
-    groups_of(body, &mut groups);
-    pairs(body, &groups, &mut meets);
-    let whole = groups[0];
-    if let Found::At { a, b, c } = first_contradiction(n, t, whole, &meets) {
-        return Answer::Contradicted { index: index(a, b, c), byte: byte(t, a, b, c) };
+    if let Some(refusal) = candidate_refusal(n, t, body, &mut groups, &mut meets) {
+        return refusal;
     }
+    let whole = groups[0];
     let mut masks = [0; 4096];
     relate(t, n, whole, &meets, &mut masks);
     if earned(body, &groups, &masks) {
@@ -950,6 +965,92 @@ fn check_answer(n: usize, t: &[u8], body: &[u8]) -> Answer {
         Found::At { a, b, c } => Answer::Unforced(index(a, b, c)),
         Found::Nowhere => Answer::Passes,
     }
+}
+
+// ---- loosening
+
+// The number that node i had before node k went.
+fn old_number(i: usize, k: usize) -> usize {
+    if i < k {
+        i
+    } else {
+        i + 1
+    }
+}
+
+// The parent that a node gets in place of p once node k went, whose parent is `above`.
+fn new_parent(p: u8, above: u8, k: usize) -> u8 {
+    let q = p as usize;
+    if q == k {
+        return above;
+    }
+    if q < k {
+        return p;
+    }
+    p - 1
+}
+
+// The nodes of a body without node k, to the front of `out`: its children go to its parent.
+fn leave_out(body: &[u8], k: usize, out: &mut [u8; 254]) {
+    let count = node_count(body);
+    let above = parent(body, k);
+    put_node(out, 0, NONE, species(body, 0));
+    let mut i = 1;
+    while i + 1 < count {
+        let j = old_number(i, k);
+        put_node(out, i, new_parent(parent(body, j), above, k), species(body, j));
+        i += 1;
+    }
+}
+
+// Drops node k from the tree in the first m nodes of the draft, and puts what is left in house order.
+fn drop_node(draft: &mut [u8; 254], m: usize, k: usize) {
+    let mut less = [0; 254];
+    leave_out(&draft[..WIDTH * m], k, &mut less);
+    arrange(&less[..WIDTH * (m - 1)], draft);
+}
+
+// A node whose group is not earned, and the group; node 0 where each is earned.
+struct Unearned {
+    node: usize,
+    group: u64,
+}
+
+// The first one of a tree, by what is entered on the triples that it resolves.
+fn find_unearned(n: usize, t: &[u8], body: &[u8]) -> Unearned {
+    let mut groups = [0; 127];
+    let mut meets = [0; 4096];
+    let mut masks = [0; 4096];
+    groups_of(body, &mut groups);
+    pairs(body, &groups, &mut meets);
+    relate(t, n, groups[0], &meets, &mut masks);
+    let node = first_unearned(body, &groups, &masks);
+    Unearned { node, group: groups[node] }
+}
+
+fn loosen_answer(n: usize, t: &[u8], body: &[u8], out: &mut [u8], list: &mut [u64]) -> Answer {
+    if let Some(refusal) = candidate_refusal(n, t, body, &mut [0; 127], &mut [0; 4096]) {
+        return refusal;
+    }
+    if out.len() < body.len() || list.len() < MOST_DROPPED {
+        return Answer::ShortRoom;
+    }
+    let mut draft = [0; 254];
+    let mut m = arrange(body, &mut draft);
+    let mut dropped = 0;
+    loop {
+        let Unearned { node, group } = find_unearned(n, t, &draft[..WIDTH * m]);
+        if node == 0 {
+            break;
+        }
+        list[dropped] = group;
+        dropped += 1;
+        drop_node(&mut draft, m, node);
+        m -= 1;
+    }
+    let end = WIDTH * m;
+    out[..end].copy_from_slice(&draft[..end]);
+    Answer::Loosened { nodes: m, dropped }
 }
 
 // ---- Newick text
@@ -1203,6 +1304,10 @@ fn hand_back(answer: Answer, values: &mut [usize]) -> usize {
             0
         }
         Answer::Passes => 0,
+        Answer::Loosened { nodes, dropped } => {
+            lay(values, &[nodes, dropped]);
+            0
+        }
         Answer::Contradicted { index, byte } => {
             lay(values, &[index, byte as usize]);
             11
@@ -1253,6 +1358,10 @@ pub fn veto(n: usize, set: u64, t: &[u8], out: &mut [u8], values: &mut [usize]) 
 
 pub fn check(n: usize, t: &[u8], body: &[u8], values: &mut [usize]) -> usize {
     hand_back(check_answer(n, t, body), values)
+}
+
+pub fn loosen(n: usize, t: &[u8], body: &[u8], out: &mut [u8], list: &mut [u64], values: &mut [usize]) -> usize {
+    hand_back(loosen_answer(n, t, body, out, list), values)
 }
 
 pub fn parse(n: usize, text: &[u8], out: &mut [u8], values: &mut [usize]) -> usize {

@@ -1,13 +1,14 @@
 //! Calls as the program `trial` reads them, and the line that answers each.
 
-use std::fmt::Write;
+use std::fmt::{Display, Write};
 
-use crate::operations::{build, check, enter, list, order, parse, read, render, veto, Collection, Refusal};
+use crate::operations::{build, check, enter, list, loosen, order, parse, read, render, veto, Collection, Refusal};
 use crate::trees::Fault;
 
-/// The longest slice, in bytes, and the longest list of records that a call may hand over.
+/// The longest slice, in bytes, and the longest lists of records and of sets that a call may hand over.
 pub const LONGEST: usize = 65_536;
 pub const MOST_RECORDS: usize = 21_845;
+pub const MOST_SETS: usize = 8_192;
 
 #[derive(Clone, Debug, PartialEq, Eq)]
 pub enum Call {
@@ -18,14 +19,16 @@ pub enum Call {
     Build { n: u64, set: u64, table: Vec<u8>, room: Vec<u8> },
     Veto { n: u64, set: u64, table: Vec<u8>, room: Vec<u8> },
     Check { n: u64, table: Vec<u8>, body: Vec<u8> },
+    Loosen { n: u64, table: Vec<u8>, body: Vec<u8>, room: Vec<u8>, list: Vec<u64> },
     Parse { n: u64, text: Vec<u8>, room: Vec<u8> },
     Render { n: u64, body: Vec<u8>, room: Vec<u8> },
 }
 
-/// The answer to a call: its number, the word of its fault where there is one, what was lent as the call leaves it,
-/// and its line without the byte 10 at the end.
+/// The answer to a call: its number, the values that come with 0, the word of its fault where there is one, the bytes that
+/// were lent as the call leaves them, and its line without the byte 10 at the end.
 pub struct Answer {
     pub number: u8,
+    pub values: Vec<u64>,
     pub fault: Option<&'static str>,
     pub lent: Option<Vec<u8>>,
     pub line: String,
@@ -42,6 +45,7 @@ impl Call {
             Call::Build { .. } => 'b',
             Call::Veto { .. } => 'v',
             Call::Check { .. } => 'c',
+            Call::Loosen { .. } => 'x',
             Call::Parse { .. } => 'n',
             Call::Render { .. } => 'w',
         }
@@ -72,6 +76,14 @@ impl Call {
                 out.extend(set.to_be_bytes());
                 put_slice(out, table);
                 put_slice(out, room);
+            }
+            Call::Loosen { n, table, body, room, list } => {
+                out.extend(n.to_be_bytes());
+                put_slice(out, table);
+                put_slice(out, body);
+                put_slice(out, room);
+                out.extend((list.len() as u32).to_be_bytes());
+                out.extend(list.iter().flat_map(|set| set.to_be_bytes()));
             }
             Call::Order { n, body: one, room: two }
             | Call::Check { n, table: one, body: two }
@@ -118,6 +130,14 @@ impl Call {
             Call::Check { n, table, body } => {
                 let given = check(*n, table, body).map(|()| vec![]);
                 answer(given, None)
+            }
+            Call::Loosen { n, table, body, room, list } => {
+                let (mut room, mut list) = (room.clone(), list.clone());
+                let given = loosen(*n, table, body, &mut room, &mut list);
+                let given = given.map(|(nodes, dropped)| vec![nodes as u64, dropped as u64]);
+                let mut answer = answer(given, Some(room));
+                put_lent(&mut answer.line, &list);
+                answer
             }
             Call::Parse { n, text, room } => in_room(room, |room| parse(*n, text, room)),
             Call::Render { n, body, room } => in_room(room, |room| render(*n, body, room)),
@@ -169,6 +189,15 @@ impl Call {
                 Call::Veto { n, set, table: slice(input)?, room: slice(input)? }
             }
             b'c' => Call::Check { n: number(input, 8)?, table: slice(input)?, body: slice(input)? },
+            b'x' => {
+                let (n, table, body, room) = (number(input, 8)?, slice(input)?, slice(input)?, slice(input)?);
+                let count = number(input, 4)? as usize;
+                if count > MOST_SETS {
+                    return None;
+                }
+                let list = (0..count).map(|_| number(input, 8)).collect::<Option<_>>()?;
+                Call::Loosen { n, table, body, room, list }
+            }
             b'n' => Call::Parse { n: number(input, 8)?, text: slice(input)?, room: slice(input)? },
             b'w' => Call::Render { n: number(input, 8)?, body: slice(input)?, room: slice(input)? },
             _ => return None,
@@ -190,6 +219,7 @@ fn in_room(room: &[u8], operation: impl FnOnce(&mut [u8]) -> Result<usize, Refus
 
 fn answer(given: Result<Vec<u64>, Refusal>, lent: Option<Vec<u8>>) -> Answer {
     let mut fault_word = None;
+    let done = given.clone().unwrap_or_default();
     let (number, values) = match given {
         Ok(values) => (0, values.iter().map(|v| v.to_string()).collect()),
         Err(refusal) => {
@@ -226,12 +256,17 @@ fn answer(given: Result<Vec<u64>, Refusal>, lent: Option<Vec<u8>>) -> Answer {
         line.push_str(&value);
     }
     if let Some(lent) = &lent {
-        line.push_str(" |");
-        for byte in lent {
-            write!(line, " {byte}").expect("a string takes it");
-        }
+        put_lent(&mut line, lent);
     }
-    Answer { number, fault: fault_word, lent, line }
+    Answer { number, values: done, fault: fault_word, lent, line }
+}
+
+/// A lent memory at the end of a line: a bar, and its content in decimal.
+fn put_lent<T: Display>(line: &mut String, lent: &[T]) {
+    line.push_str(" |");
+    for content in lent {
+        write!(line, " {content}").expect("a string takes it");
+    }
 }
 
 /// Everything that trial writes for an input.

@@ -16,12 +16,17 @@ const BYTES_IN_A_BATCH: usize = 2_000_000;
 /// How many counterexamples are kept; after them a part stops.
 const KEPT: usize = 10;
 
-/// How often each number of each operation came, each fault, and each byte in the tables that were listed.
+/// From this number on, it does not matter how many sets were dropped.
+pub const MANY_DROPPED: u64 = 3;
+
+/// How often each number of each operation came, each fault, each byte in the tables that were listed, and how often so
+/// many sets were dropped.
 #[derive(Default)]
 pub struct Counts {
     pub numbers: BTreeMap<(char, u8), u64>,
     pub faults: BTreeMap<(char, &'static str), u64>,
     pub listed: BTreeMap<u8, u64>,
+    pub dropped: BTreeMap<u64, u64>,
 }
 
 impl Counts {
@@ -35,6 +40,9 @@ impl Counts {
                 *self.listed.entry(*byte).or_default() += 1;
             }
         }
+        if let (Call::Loosen { .. }, [_, dropped]) = (call, &answer.values[..]) {
+            *self.dropped.entry((*dropped).min(MANY_DROPPED)).or_default() += 1;
+        }
     }
 
     fn add_all(&mut self, more: Counts) {
@@ -46,6 +54,7 @@ impl Counts {
         add_each(&mut self.numbers, more.numbers);
         add_each(&mut self.faults, more.faults);
         add_each(&mut self.listed, more.listed);
+        add_each(&mut self.dropped, more.dropped);
     }
 }
 

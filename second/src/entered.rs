@@ -88,15 +88,31 @@ impl Entered {
     pub fn keeps_the_veto_rule(&self, tree: &Tree) -> bool {
         let Tree::Inner(children) = tree else { return true };
         let set = tree.species();
-        let link = |some: u64, others: u64| members(some).any(|a| members(others).any(|b| self.linked(set, a, b)));
-        let joined = |part: u64| subsets(part).into_iter().all(|x| x == 0 || x == part || link(x, part & !x));
+        let joined = |part: u64| self.joined_by_heaps(set, part, part);
         if joined(set) {
             return children.iter().all(|child| matches!(child, Tree::Leaf(_)));
         }
         children.iter().all(|child| {
             let part = child.species();
-            joined(part) && !link(part, set & !part) && self.keeps_the_veto_rule(child)
+            joined(part) && !self.link_between(set, part, set & !part) && self.keeps_the_veto_rule(child)
         })
+    }
+
+    /// Do the links on a set join all of a group inside it?
+    pub fn joins(&self, set: u64, group: u64) -> bool {
+        group & !self.part(set, group.trailing_zeros() as usize, None) == 0
+    }
+
+    /// The same by the species of a part of the set alone: in every way to put them in two heaps, each with some of the
+    /// group, a link on the set goes from one heap to the other. For small sets.
+    pub fn joined_by_heaps(&self, set: u64, part: u64, group: u64) -> bool {
+        let apart = |heap: &u64| heap & group != 0 && group & !heap != 0;
+        subsets(part).into_iter().filter(apart).all(|heap| self.link_between(set, heap, part & !heap))
+    }
+
+    /// Does a link on a set go from one of these species to one of the others?
+    fn link_between(&self, set: u64, some: u64, others: u64) -> bool {
+        members(some).any(|a| members(others).any(|b| self.linked(set, a, b)))
     }
 
     /// Whether no tree holds these triplets together with xy|z, by a chain of parts. For triplets

@@ -1,10 +1,11 @@
-//! All tables, sets, candidates and short lists up to four species, tables with fans, all short texts, those at the limits, and all
-//! rooms for a text.
+//! All tables, sets, candidates and short lists up to four species, tables with fans, parts of what trees of five species hold, all
+//! short texts, those at the limits, and all rooms for a text.
 
 use crate::calls::Call;
 use crate::grammar::place;
 use crate::limits::{cases, ladder};
 use crate::newick;
+use crate::operations::PLACES;
 use crate::trees::{all_trees, subsets, Tree};
 use crate::triples::{all, choose, one, FAN};
 use crate::writer;
@@ -173,7 +174,7 @@ pub fn exhaustive(push: &mut dyn FnMut(Call) -> bool) {
         }
 
         // every candidate with every table into check: in house order, and in another order of its
-        // nodes, the next one from table to table
+        // nodes, the next one from table to table; and into loosening in one of these two orders
         let orders: Vec<(Vec<u8>, Vec<Vec<u8>>)> = trees
             .iter()
             .map(|tree| {
@@ -190,6 +191,10 @@ pub fn exhaustive(push: &mut dyn FnMut(Call) -> bool) {
                     if !push(call) {
                         return;
                     }
+                }
+                let body = other.filter(|_| k % 2 == 1).unwrap_or(house);
+                if !push(loosen(wide, table, body, body.len() + k % 3, PLACES + k % 2)) {
+                    return;
                 }
             }
         }
@@ -238,6 +243,92 @@ pub fn fans(push: &mut dyn FnMut(Call) -> bool) -> bool {
             some_species(n).into_iter().flat_map(build).chain(candidates.iter().map(check)).all(&mut *push)
         })
     })
+}
+
+/// Loosening, in a room and a list of so many places. No set of one species is ever dropped.
+fn loosen(n: u64, table: &[u8], body: &[u8], room: usize, list: usize) -> Call {
+    Call::Loosen { n, table: table.to_vec(), body: body.to_vec(), room: vec![9; room], list: vec![1; list] }
+}
+
+/// The shape of a tree, whatever its species are.
+fn shape(tree: &Tree) -> String {
+    let Tree::Inner(children) = tree else { return "()".to_string() };
+    let mut shapes: Vec<String> = children.iter().map(shape).collect();
+    shapes.sort();
+    format!("({})", shapes.concat())
+}
+
+/// A tree of each shape of five species.
+fn shapes_of_five() -> Vec<Tree> {
+    let mut seen = Vec::new();
+    let mut trees = all_trees(all(5));
+    trees.retain(|tree| {
+        let shape = shape(tree);
+        let new = !seen.contains(&shape);
+        seen.push(shape);
+        new
+    });
+    assert_eq!(trees.len(), 12);
+    trees
+}
+
+/// A tree of each shape of five species with every part of the triplets that it holds, the species of every other one
+/// turned round; every candidate of three and four species with fans in the table, and with bytes that are too large; and
+/// rooms, lists and refusals.
+pub fn loosened(push: &mut dyn FnMut(Call) -> bool) -> bool {
+    for tree in shapes_of_five() {
+        for (turn, tree) in [tree.renamed(&|species| 4 - species), tree].iter().enumerate() {
+            let (held, body) = (tree.triplets(5), tree.preorder());
+            let places: Vec<usize> = (0..held.len()).filter(|&place| held[place] != 0).collect();
+            for part in (turn..1 << places.len()).step_by(2) {
+                let mut table = vec![0; held.len()];
+                for (_, &place) in places.iter().enumerate().filter(|(k, _)| part >> k & 1 == 1) {
+                    table[place] = held[place];
+                }
+                if !push(loosen(5, &table, &body, body.len(), PLACES)) {
+                    return false;
+                }
+            }
+        }
+    }
+    let three = tables(3, 0..=255);
+    let four = [[0, 8, 15, 16], [0, 9, 10, 12]].map(|bytes| tables(4, bytes.into_iter())).concat();
+    [(3, three), (4, four)].into_iter().all(|(n, tables)| {
+        let candidates: Vec<Vec<u8>> = trees(n).iter().map(Tree::house_order).collect();
+        tables.iter().all(|table| candidates.iter().all(|body| push(loosen(n as u64, table, body, body.len(), PLACES))))
+    }) && loosening_refused(push)
+}
+
+/// Rooms and lists about enough, few species and 64; and what comes first where there is more than one refusal.
+fn loosening_refused(push: &mut dyn FnMut(Call) -> bool) -> bool {
+    let mut calls = Vec::new();
+    let cherry: [u8; 10] = [255, 255, 0, 2, 0, 255, 2, 1, 2, 0];
+    for byte in [0, 1, 2] {
+        for room in 0..13 {
+            for list in [0, 1, 2, 31, 60, 61, 62, 63, 64, 65, 128, 8_192] {
+                calls.push(loosen(3, &[byte], &cherry, room, list));
+            }
+        }
+    }
+    // a body of 254 bytes that becomes one of 130, one that stays, and one that is contradicted
+    let ladder = newick::read(ladder(63).as_bytes()).expect("a tree").preorder();
+    for byte in [0, 1, 2] {
+        for (room, list) in [(0, 62), (130, 62), (253, 62), (254, 0), (254, 61), (254, 62), (255, 64)] {
+            calls.push(loosen(64, &vec![byte; choose(64, 3)], &ladder, room, list));
+        }
+    }
+
+    // n comes first, then the table's length, its bytes, the body's length, the tree, PC, and the room or the list
+    for n in SIZES.into_iter().filter(|&n| n < 63 || n > 64).chain([3, 4]) {
+        for table in SMALL_TABLES {
+            for body in [&[][..], &[255], &[255, 0], &[255, 64], &[255, 255, 0, 0], &cherry[..9], &cherry] {
+                for (room, list) in [(0, 0), (1, 62), (2, 61), (2, 62), (9, 62), (10, 61), (10, 62), (300, 63)] {
+                    calls.push(loosen(n, table, body, room, list));
+                }
+            }
+        }
+    }
+    calls.into_iter().all(push)
 }
 
 /// Tables with one byte, or two, and every set of up to six species: which triple is the first outside. Then

@@ -3,7 +3,7 @@
 use crate::calls::Call;
 use crate::entered::{Entered, Joined};
 use crate::exhaustive::collection;
-use crate::operations::contradiction;
+use crate::operations::{contradiction, PLACES};
 use crate::random::Random;
 use crate::texts;
 use crate::trees::{listed, Tree};
@@ -52,7 +52,7 @@ impl Inputs {
         let mut call = call.clone();
         let (n, set, table) = match &mut call {
             Call::Build { n, set, table, .. } | Call::Veto { n, set, table, .. } => (*n, *set, table),
-            Call::Check { n, table, .. } => (*n, u64::MAX, table),
+            Call::Check { n, table, .. } | Call::Loosen { n, table, .. } => (*n, u64::MAX, table),
             _ => return None,
         };
         if n > AGAIN_UP_TO {
@@ -71,7 +71,7 @@ impl Inputs {
         if n > 48 {
             self.large += 1;
         }
-        let letter = self.random.pick(b"rrrlllleeeoooobbbbbvvvvvcccccccnnnnnwwwww");
+        let letter = self.random.pick(b"rrrlllleeeoooobbbbbvvvvvcccccccxxxxxxnnnnnwwwww");
         match letter {
             b'r' => Call::Read { bytes: self.collection(n) },
             b'l' => {
@@ -93,6 +93,7 @@ impl Inputs {
             }
             b'n' => self.parse(n),
             b'w' => self.render(n),
+            b'x' => self.loosen(n),
             _ => self.check(n, slow_allowed),
         }
     }
@@ -448,6 +449,33 @@ impl Inputs {
         (n, self.collection_of(n, &papers))
     }
 
+    /// Trees of one collection with three or four species each, all of one tree: they leave much open. Now and then two
+    /// species are exchanged in one, which may then quarrel with the others.
+    fn small_papers(&mut self, n: usize) -> Vec<Tree> {
+        let whole = self.tree(all(n));
+        let mut species: Vec<usize> = (0..n).collect();
+        (0..self.random.between(2, (n / 2 + 2).min(16)))
+            .map(|_| {
+                self.random.shuffle(&mut species);
+                let few = &species[..self.random.between(3, 4).min(n)];
+                let keep = few.iter().fold(0, |set, &i| set | one(i));
+                let paper = restricted(&whole, keep).expect("some species are left");
+                if self.random.chance(1, 20) {
+                    self.exchanged(&paper, few)
+                } else {
+                    paper
+                }
+            })
+            .collect()
+    }
+
+    /// n, and a collection of small trees.
+    pub fn small_collection(&mut self) -> (usize, Vec<u8>) {
+        let n = self.species().max(4);
+        let papers = self.small_papers(n);
+        (n, self.collection_of(n, &papers))
+    }
+
     // ---- collections
 
     pub fn collection(&mut self, n: usize) -> Vec<u8> {
@@ -701,7 +729,7 @@ impl Inputs {
     fn set(&mut self, n: usize, table: &[u8], papers: &[Tree]) -> u64 {
         let spoken = triples(n).zip(table).filter(|(_, &byte)| byte != 0);
         let spoken = spoken.fold(0, |set, ((a, b, c), _)| set | one(a) | one(b) | one(c));
-        let occur = papers.iter().fold(spoken, |set, tree| set | tree.species());
+        let occur = spoken | occur(papers);
         match self.random.below(32) {
             0..=8 => occur,
             9..=16 => all(n),
@@ -807,6 +835,72 @@ impl Inputs {
         let table = self.table_handed(table);
         Call::Check { n: self.handed(n), table, body }
     }
+
+    /// A table, and a tree that its triplets mostly do not contradict, with groups which they mostly do not force.
+    fn table_and_loose(&mut self, n: usize) -> (Vec<u8>, Tree) {
+        match self.random.below(10) {
+            0 => self.table_and_candidate(n),
+            1..=3 => {
+                let papers = if self.random.chance(1, 3) { self.quarrel(n) } else { self.small_papers(n) };
+                let table = listed(n, &papers);
+                let tree = Entered::from_table(n, &table).build(occur(&papers), Joined::Leaves);
+                (table, tree.expect("the veto build never stops"))
+            }
+            4 | 5 => {
+                // what a tree with fewer groups says
+                let set = if self.random.chance(2, 3) { all(n) } else { self.some_species(n) };
+                let tree = self.tree(set);
+                let of = self.random.between(1, 4);
+                (self.contracted(&tree, 1, of).table(n), tree)
+            }
+            _ => {
+                // some of what the tree itself says
+                let set = if self.random.chance(2, 3) { all(n) } else { self.some_species(n) };
+                let tree = self.tree(set);
+                let (kept, of) = self.random.pick(&[(1, 4), (1, 2), (1, 2), (2, 3), (3, 4), (5, 6), (9, 10), (19, 20)]);
+                let says = tree.table(n);
+                let table = says.iter().map(|&byte| if self.random.chance(kept, of) { byte } else { 0 });
+                (table.collect(), tree)
+            }
+        }
+    }
+
+    /// The list that is lent to loosening: mostly of 62 places or some more.
+    fn list(&mut self) -> Vec<u64> {
+        let places = match self.random.below(24) {
+            0 => self.random.below(PLACES),
+            1 => PLACES - 1,
+            2..=11 => PLACES,
+            _ => self.random.between(PLACES, PLACES + 8),
+        };
+        match self.random.below(4) {
+            0 => vec![7; places],
+            1 => (0..places as u64).map(|k| u64::MAX - k).collect(),
+            2 => vec![self.random.next(); places],
+            _ => (0..places).map(|_| self.random.next()).collect(),
+        }
+    }
+
+    fn loosen(&mut self, n: usize) -> Call {
+        let (mut table, mut tree) = self.table_and_loose(n);
+        // a candidate without a group below its root loses none: fewer of these
+        if n > 2 && tree.groups().len() < tree.species().count_ones() as usize + 2 && self.random.chance(3, 4) {
+            (table, tree) = self.table_and_loose(n);
+        }
+        let tree = if self.random.chance(1, 12) { self.exchanged(&tree, &(0..n).collect::<Vec<_>>()) } else { tree };
+        let mut body = self.body(&tree);
+        if self.random.chance(1, 7) {
+            body = self.damaged(n, &body);
+        }
+        let table = self.table_handed(table);
+        let room = self.room(body.len());
+        Call::Loosen { n: self.handed(n), table, body, room, list: self.list() }
+    }
+}
+
+/// The species of these trees.
+fn occur(papers: &[Tree]) -> u64 {
+    papers.iter().fold(0, |set, tree| set | tree.species())
 }
 
 /// The tree with only the species of a set, where it has any of them.

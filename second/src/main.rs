@@ -9,6 +9,7 @@ mod exhaustive;
 mod grammar;
 mod inputs;
 mod limits;
+mod loosening;
 mod named;
 mod newick;
 mod operations;
@@ -28,7 +29,7 @@ use std::path::PathBuf;
 use std::process::ExitCode;
 use std::time::Instant;
 
-use compare::{shown, Comparison, Counts};
+use compare::{shown, Comparison, Counts, MANY_DROPPED};
 use inputs::Inputs;
 use programs::{Feed, Program, Programs};
 
@@ -38,7 +39,7 @@ const SEED: u64 = 1;
 const TEXTS: usize = 5;
 
 /// Every number that each operation has, and every fault of its refusal 6.
-const NUMBERS: [(char, &str, &[u8], &[&str]); 9] = [
+const NUMBERS: [(char, &str, &[u8], &[&str]); 10] = [
     ('r', "read", &[0, 1, 2, 3, 4, 5, 6], &FAULTS),
     ('l', "list", &[0, 1, 2, 3, 4, 5, 6, 7], &FAULTS),
     ('e', "enter", &[0, 2, 7, 13], &[]),
@@ -46,6 +47,7 @@ const NUMBERS: [(char, &str, &[u8], &[&str]); 9] = [
     ('b', "build", &[0, 2, 7, 8, 9, 10, 15, 16], &[]),
     ('v', "veto", &[0, 2, 7, 8, 9, 15, 16], &[]),
     ('c', "check", &[0, 2, 5, 6, 7, 8, 11, 12], &FAULTS),
+    ('x', "loosen", &[0, 2, 5, 6, 7, 8, 9, 11], &FAULTS),
     // a text cannot make a bad parent
     ('n', "parse", &[0, 2, 6, 9, 14], &["species", "seen", "only"]),
     ('w', "render", &[0, 2, 5, 6, 9], &FAULTS),
@@ -173,6 +175,11 @@ fn compare_all(programs: Programs, calls: u64, seed: u64, texts: usize) -> ExitC
             exhaustive::fans(push);
         });
     });
+    part(&mut comparison, "trees loosened", |c| {
+        c.calls(|push| {
+            exhaustive::loosened(push);
+        });
+    });
     part(&mut comparison, "sets to build over", |c| {
         c.calls(|push| {
             exhaustive::sets(push);
@@ -193,9 +200,11 @@ fn compare_all(programs: Programs, calls: u64, seed: u64, texts: usize) -> ExitC
             exhaustive::rooms(push);
         });
     });
-    part(&mut comparison, "texts written and read again, trees listed and built again, with a veto too", |c| {
-        rounds::compare(c, seed)
-    });
+    part(
+        &mut comparison,
+        "texts written and read again, trees listed and built again, with a veto too, and loosened",
+        |c| rounds::compare(c, seed),
+    );
     let fixed = std::mem::take(&mut comparison.counts);
     let mut made = (0, 0);
     part(&mut comparison, "random calls", |c| {
@@ -214,7 +223,7 @@ fn compare_all(programs: Programs, calls: u64, seed: u64, texts: usize) -> ExitC
     });
     println!("second: among the random calls {} with more than 48 species, {} slow checks", made.1, made.0);
 
-    println!("second: how often each number came, and each byte in a table that was listed, among the fixed calls and among the random ones:");
+    println!("second: how often each number came, each byte in a table that was listed, and so many sets dropped, among the fixed calls and among the random ones:");
     let never = tell_counts(&fixed, &comparison.counts);
     for what in &never {
         println!("second: never came among the random calls: {what}");
@@ -240,8 +249,8 @@ fn part(comparison: &mut Comparison, name: &str, run: impl FnOnce(&mut Compariso
     );
 }
 
-/// Prints how often each number came, each fault and each byte that was listed; returns those that never did among the
-/// random calls.
+/// Prints how often each number came, each fault, each byte that was listed, and so many sets dropped; returns those that
+/// never did among the random calls.
 fn tell_counts(fixed: &Counts, random: &Counts) -> Vec<String> {
     let mut never = Vec::new();
     for (letter, name, numbers, faults) in NUMBERS {
@@ -254,6 +263,9 @@ fn tell_counts(fixed: &Counts, random: &Counts) -> Vec<String> {
     }
     let bytes = (0..16).map(|byte: u8| (byte.to_string(), byte));
     never.extend(tell_line("bytes listed:", bytes, &fixed.listed, &random.listed));
+    let dropped =
+        (0..=MANY_DROPPED).map(|count| (format!("{count}{}", if count == MANY_DROPPED { "+" } else { "" }), count));
+    never.extend(tell_line("sets dropped:", dropped, &fixed.dropped, &random.dropped));
     never
 }
 

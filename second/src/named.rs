@@ -1,6 +1,6 @@
 //! Runs by name, each with its outcome written out by hand: those of document 01, worked examples of
 //! its source papers, Newick texts, read and written (document 02, T-01 and T-02), sets that occur (T-03), fans in
-//! tables (T-05), and builds with a veto (T-06).
+//! tables (T-05), builds with a veto (T-06), and trees that are loosened (T-07).
 
 use crate::calls::Call;
 use crate::compare::{shown, split, Comparison};
@@ -49,6 +49,30 @@ impl Runs {
         self.call(name, Call::Check { n: n as u64, table, body }, line);
     }
 
+    /// A tree as it is written, loosened in a room with two bytes 9 behind its body and a list of 62 sets 1: what is told,
+    /// the final body, and the dropped sets.
+    fn loosened(&mut self, n: usize, table: &[u8], tree: &str, told: &str, body: &str, dropped: &str) {
+        let handed = newick::read(format!("{tree};").as_bytes()).expect("a tree").preorder();
+        let behind = " 9".repeat(handed.len() + 2 - body.split_whitespace().count());
+        let unused = " 1".repeat(62 - dropped.split_whitespace().count());
+        let line = format!("{told} | {body}{behind} |{dropped}{unused}");
+        self.loosen(n, table, &handed, (2 + handed.len(), 62), &format!("loosen {}", short(tree)), &line);
+    }
+
+    /// A body that is not loosened, which leaves its room of bytes 9 and its list of sets 1 as they were.
+    fn loosen_refused(&mut self, n: usize, table: &[u8], body: &[u8], (room, list): (usize, usize), refusal: &str) {
+        let line = format!("{refusal} |{} |{}", " 9".repeat(room), " 1".repeat(list));
+        let name = format!("loosen {}", short(&format!("{body:?}")));
+        self.loosen(n, table, body, (room, list), &name, &line);
+    }
+
+    fn loosen(&mut self, n: usize, table: &[u8], body: &[u8], (room, list): (usize, usize), name: &str, line: &str) {
+        let name = format!("{name}, n={n}, table {}, room of {room} bytes, list of {list} sets", table_name(table));
+        let (table, body) = (table.to_vec(), body.to_vec());
+        let call = Call::Loosen { n: n as u64, table, body, room: vec![9; room], list: vec![1; list] };
+        self.call(&name, call, line);
+    }
+
     fn read(&mut self, name: &str, bytes: &[u8], line: &str) {
         self.call(name, Call::Read { bytes: bytes.to_vec() }, line);
     }
@@ -92,10 +116,18 @@ fn body(tree: &str) -> Vec<u8> {
 
 /// The name of a build by what is handed in, and its line. Where nothing is written, the room is as it was.
 fn told_by_input(n: usize, set: u64, table: &[u8], room: usize, told: &str) -> (String, String) {
-    let shown = if table.len() <= 10 { format!("{table:?}") } else { format!("of {} bytes", table.len()) };
-    let name = format!("n={n}, set {set}, table {shown}, room of {room} bytes");
+    let name = format!("n={n}, set {set}, table {}, room of {room} bytes", table_name(table));
     let line = if told.contains('|') { told.to_string() } else { format!("{told} |{}", " 9".repeat(room)) };
     (name, line)
+}
+
+/// A table in a name: itself, or its length where it is long.
+fn table_name(table: &[u8]) -> String {
+    if table.len() <= 10 {
+        format!("{table:?}")
+    } else {
+        format!("of {} bytes", table.len())
+    }
 }
 
 /// Bytes in decimal, each after a space.
@@ -677,6 +709,148 @@ fn vetoes(runs: &mut Runs) {
     runs.check("the veto build of a quarrel far down, checked", 5, &deep, &nested, "0");
 }
 
+/// Trees that are loosened.
+fn loosened(runs: &mut Runs) {
+    let mut loosen = |n, table: &[u8], tree: &str, told: &str, body: &str, dropped: &str| {
+        runs.loosened(n, table, tree, told, body, dropped);
+    };
+    // nothing that could be dropped
+    loosen(1, &[], "0", "0 1 0", "255 0", "");
+    loosen(3, &[7], "2", "0 1 0", "255 2", "");
+    loosen(2, &[], "(1,0)", "0 3 0", "255 255 0 0 0 1", "");
+    loosen(3, &[7], "(2,1,0)", "0 4 0", "255 255 0 0 0 1 0 2", "");
+    // one group, entered or not; a fan makes no difference
+    for (empty, entered) in [(0, 1), (8, 9)] {
+        loosen(3, &[entered], "((0,1),2)", "0 5 0", "255 255 0 255 1 0 1 1 0 2", "");
+        loosen(3, &[empty], "((0,1),2)", "0 4 1", "255 255 0 0 0 1 0 2", " 3");
+        loosen(3, &[empty], "((2,1),0)", "0 4 1", "255 255 0 0 0 1 0 2", " 6");
+    }
+    loosen(3, &[2], "(1,(2,0))", "0 5 0", "255 255 0 255 1 0 1 2 0 1", "");
+    // document 01's tree that passes; and the same where nothing but 01|2 is entered
+    let star_of_4 = "255 255 0 0 0 1 0 2 0 3";
+    for table in [[1, 0, 0, 1], [9, 8, 8, 9], [1, 1, 1, 1]] {
+        loosen(4, &table, "(3,(2,(1,0)))", "0 7 0", "255 255 0 255 1 255 2 0 2 1 1 2 0 3", "");
+    }
+    for table in [[1, 0, 0, 0], [9, 8, 8, 8]] {
+        loosen(4, &table, "(((0,1),2),3)", "0 5 2", star_of_4, " 7 3");
+    }
+    // 12|0 and 12|3
+    loosen(4, &[4, 0, 0, 1], "((0,3),(1,2))", "0 6 1", "255 255 0 0 0 255 2 1 2 2 0 3", " 9");
+    // 01|3 alone: 0 and 1 are not linked on 0, 1 and 2; and 01|2 as well
+    loosen(4, &[0, 1, 0, 0], "((0,1),2,3)", "0 5 1", star_of_4, " 3");
+    loosen(4, &[1, 1, 0, 0], "((0,1),2,3)", "0 6 0", "255 255 0 255 1 0 1 1 0 2 0 3", "");
+    // 01|2 and 12|3 would join 0, 1 and 2, but the tree has these three as a fan: 01|2 is not in R
+    loosen(4, &[1, 0, 0, 1], "((0,1,2),3)", "0 5 1", star_of_4, " 7");
+    // papers that quarrel about a fan of the tree; 01|3 and 12|3 join it, 01|3 alone does not
+    loosen(4, &[7, 1, 0, 1], "((0,1,2),3)", "0 6 0", "255 255 0 255 1 0 1 1 1 2 0 3", "");
+    loosen(4, &[7, 1, 0, 0], "((0,1,2),3)", "0 5 1", star_of_4, " 7");
+    // some of the species: 13|4 is entered, or 13|0 with 0 outside the tree
+    loosen(5, &[7, 7, 7, 7, 7, 7, 7, 7, 1, 7], "(4,(3,1))", "0 5 0", "255 255 0 255 1 1 1 3 0 4", "");
+    loosen(5, &[7, 4, 7, 7, 7, 7, 7, 7, 0, 7], "(4,(3,1))", "0 4 1", "255 255 0 1 0 3 0 4", " 10");
+
+    // 01|2, 01|4, 23|0 and 23|4: for {0,1} and {2,3} one third species of the other is enough
+    let star_of_5 = "255 255 0 0 0 1 0 2 0 3 0 4";
+    let kept = "255 255 0 255 1 0 1 1 0 255 4 2 4 3 0 4";
+    loosen(5, &[1, 0, 4, 0, 1, 0, 0, 0, 0, 1], "((0,1),(2,3),4)", "0 8 0", kept, "");
+    // without 23|4: {2,3} goes, and then 3 stands alone beside {0,1}, which was earned before
+    loosen(5, &[1, 0, 4, 0, 1, 0, 0, 0, 0, 0], "((0,1),(2,3),4)", "0 6 2", star_of_5, " 12 3");
+    // ((0,1),2), ((2,3),4) and ((1,2),4): {0,1,2,3} is earned, {0,1,2} goes, and {0,1}; now the tree has 0, 1 and 2 as a
+    // fan, 01|2 is not in R any more, and {0,1,2,3} goes too
+    let chain = [1, 0, 0, 0, 0, 0, 1, 0, 0, 1];
+    loosen(5, &chain, "((((0,1),2),3),4)", "0 6 3", star_of_5, " 7 3 15");
+    // house order, whatever order is handed in: children by their lowest species, and a node before those below it
+    let star_of_6 = "255 255 0 0 0 1 0 2 0 3 0 4 0 5";
+    loosen(6, &[0; 20], "((5,3),(2,1),(4,0))", "0 7 3", star_of_6, " 17 6 40");
+    loosen(6, &[0; 20], "((4,(2,1)),((5,0),3))", "0 7 4", star_of_6, " 41 33 22 6");
+    // 03|1 and 35|1: {0,3,5} is earned, and {0,5} below it goes before {1,2,4}; then 2 stands alone
+    let mut below = [0; 20];
+    (below[1], below[14]) = (2, 4);
+    loosen(6, &below, "((1,2,4),((0,5),3))", "0 7 3", star_of_6, " 33 22 41");
+    // the papers after source document 000's example 4: the built tree
+    let papers = [1, 1, 0, 0, 1, 0, 0, 4, 4, 0, 1, 0, 0, 4, 4, 0, 4, 4, 0, 4];
+    let left = "255 255 0 255 1 0 1 1 0 2 0 3 0 4 0 5";
+    loosen(6, &papers, "((0,1),2,(3,(4,5)))", "0 8 2", left, " 56 48");
+    loosen(6, &papers, "((0,1),2,3,4,5)", "0 8 0", left, "");
+
+    // 64 species, fully nested, with 12|3, 23|4 and so on: 0 is linked with none, and all 62 groups go; with 01|2 they stay
+    let nested = ladder(63);
+    let nested = nested.trim_end_matches(';');
+    let mut links = vec![0; 41_664];
+    for c in 3..64 {
+        links[choose(c, 3) + choose(c - 1, 2) + c - 2] = 1;
+    }
+    let star: String = (0..64).map(|i| format!(" 0 {i}")).collect();
+    let star = format!("255 255{star}");
+    let dropped: String = (2..64).rev().map(|k| format!(" {}", (1u64 << k) - 1)).collect();
+    loosen(64, &links, nested, "0 65 62", &star, &dropped);
+    loosen(64, &[0; 41_664], nested, "0 65 62", &star, &dropped);
+    links[0] = 1;
+    let inner: String = (0..62).map(|k| format!(" {k} 255")).collect();
+    let leaves: String = (1..64).map(|i| format!(" {} {i}", 63 - i)).collect();
+    let stays = format!("255 255{inner} 62 0{leaves}");
+    loosen(64, &links, nested, "0 127 0", &stays, "");
+    loosen(64, &[1; 41_664], nested, "0 127 0", &stays, "");
+
+    // the trees that are left, and those that were handed in
+    for (n, table, tree, line) in [
+        (6, &papers[..], "((0,1),2,(3,(4,5)))", "12 9"),
+        (6, &papers, "((0,1),2,3,4,5)", "0"),
+        (5, &chain, "((((0,1),2),3),4)", "12 1"),
+        (5, &chain, "((0,1,2,3),4)", "12 4"),
+        (5, &chain, "(0,1,2,3,4)", "0"),
+        (4, &[4, 0, 0, 1], "((0,3),(1,2))", "12 1"),
+        (4, &[4, 0, 0, 1], "(0,(1,2),3)", "0"),
+        (64, &links, nested, "0"),
+    ] {
+        runs.check(&format!("n={n}, {}, checked", short(tree)), n, table, &body(tree), line);
+    }
+}
+
+/// Loosening that is refused, and rooms and lists that are just enough.
+fn loosening_refused(runs: &mut Runs) {
+    let mut refused = |n, table: &[u8], body: &[u8], lent, refusal: &str| {
+        runs.loosen_refused(n, table, body, lent, refusal);
+    };
+    // the room is as long as the candidate's body, and the list has 62 places, whatever is dropped
+    for byte in [0, 1] {
+        refused(3, &[byte], &CHERRY, (9, 62), "9");
+        refused(3, &[byte], &CHERRY, (10, 61), "9");
+        refused(3, &[byte], &CHERRY, (0, 0), "9");
+        refused(3, &[byte], &CHERRY, (8, 63), "9");
+    }
+    refused(3, &[7], &FAN, (7, 62), "9");
+    refused(3, &[7], &[255, 2], (2, 61), "9");
+    refused(3, &[7], &[255, 2], (1, 62), "9");
+    refused(1, &[], &[255, 0], (2, 0), "9");
+    // 2, 7, 8, 5, 6, 11, 9, in this order
+    for lent in [(10, 62), (0, 0), (10, 61)] {
+        for n in [0, 65, 256 + 3] {
+            refused(n, &[16], &[], lent, "2");
+            refused(n, &[0], &CHERRY, lent, "2");
+        }
+        refused(3, &[], &[], lent, "7");
+        refused(3, &[16, 0], &CHERRY, lent, "7");
+        refused(4, &[0, 17, 16, 0], &[], lent, "8 1");
+        refused(3, &[16], &CHERRY, lent, "8 0");
+        refused(3, &[2], &[], lent, "5 0");
+        refused(3, &[2], &CHERRY[..9], lent, "5 0");
+        refused(3, &[2], &[255; 256], lent, "5 0");
+        refused(3, &[2], &[0, 0], lent, "6 0 0 parent 0");
+        refused(3, &[2], &[255, 3], lent, "6 0 0 species 3");
+        refused(3, &[2], &[255, 255, 0, 1, 0, 1], lent, "6 0 2 seen 1");
+        refused(3, &[2], &[255, 255, 0, 0], lent, "6 0 0 only");
+        refused(3, &[2], &CHERRY, lent, "11 0 2");
+        refused(3, &[15], &CHERRY, lent, "11 0 15");
+        refused(4, &[1, 0, 10, 2], &NESTED, lent, "11 2 10");
+    }
+    // one more of each than is needed
+    let call = |room, list| Call::Loosen { n: 3, table: vec![0], body: CHERRY.to_vec(), room, list };
+    let (room, list) = ((1..12).collect::<Vec<u8>>(), (0..63).collect::<Vec<u64>>());
+    let behind: String = (1..63).map(|k| format!(" {k}")).collect();
+    let line = format!("0 4 1 | 255 255 0 0 0 1 0 2 9 10 11 | 3{behind}");
+    runs.call("loosen ((0,1),2), what stands behind", call(room, list), &line);
+}
+
 /// Newick texts that are read: the body in the text's order.
 fn texts_read(runs: &mut Runs) {
     runs.parse(4, b"((0,1),2);", 5, "255 255 0 255 1 0 1 1 0 2", 2);
@@ -867,6 +1041,8 @@ fn all_runs() -> Runs {
     fans_listed(&mut runs);
     fans_used(&mut runs);
     vetoes(&mut runs);
+    loosened(&mut runs);
+    loosening_refused(&mut runs);
     texts_read(&mut runs);
     texts_refused(&mut runs);
     texts_written(&mut runs);

@@ -1,8 +1,10 @@
-//! The nine operations (document 01, "Numbers handed back", and document 02, T-01 to T-03, T-05 and T-06).
+//! The ten operations (document 01, "Numbers handed back", and document 02, T-01 to T-03 and T-05 to T-07).
 
 use crate::entered::{build_numbered_anew, some_tree_holds, Entered, Joined};
 use crate::grammar::{self, LONGEST_SEARCHED};
+use crate::loosening::{coarser, loosened};
 use crate::newick;
+use crate::random::Random;
 use crate::trees::{broken_rule, listed, Fault, Tree};
 use crate::triples::{all, choose, has, has_three, index, one, triples, triplets_on, without_fans, FAN};
 use crate::writer;
@@ -280,18 +282,32 @@ pub fn render(n: u64, body: &[u8], room: &mut [u8]) -> Result<usize, Refusal> {
 
 /// Checks a candidate against a table.
 pub fn check(n: u64, table: &[u8], body: &[u8]) -> Result<(), Refusal> {
+    let (n, candidate) = checkable(n, table, body)?;
+    match not_forced(n, &candidate, &without_fans(table), 16) {
+        Some(triple) => Err(Refusal::NotForced { triple }),
+        None => Ok(()),
+    }
+}
+
+/// What the check refuses before PI. Returns n and the candidate, which passes PC.
+fn checkable(n: u64, table: &[u8], body: &[u8]) -> Result<(usize, Tree), Refusal> {
     let n = size(n)?;
     table_length(n, table)?;
     table_bytes(table)?;
     body_length(0, body.len())?;
     let candidate = tree_of(0, n, body)?;
     let own = candidate.triplets(n);
-    let mut r = resolved(&own, &without_fans(table));
-    if let Some(triple) = contradicted(n, &own, &r) {
-        return Err(Refusal::Contradicted { triple, byte: table[triple] });
+    match contradicted(n, &own, &resolved(&own, &without_fans(table))) {
+        Some(triple) => Err(Refusal::Contradicted { triple, byte: table[triple] }),
+        None => Ok((n, candidate)),
     }
+}
 
-    // PI: R with either of the two other triplets can be held by no tree
+/// PI, for a candidate that passes PC: R with either of the two other triplets can be held by no tree. The first triple
+/// for which this fails. It is found by trees or builds too, up to so many species.
+fn not_forced(n: usize, candidate: &Tree, entered: &[u8], builds_up_to: usize) -> Option<usize> {
+    let own = candidate.triplets(n);
+    let mut r = resolved(&own, entered);
     let chain = Entered::from_table(n, &r);
     let groups = candidate.groups();
     for (triple, (a, b, c)) in triples(n).enumerate() {
@@ -306,7 +322,7 @@ pub fn check(n: u64, table: &[u8], body: &[u8]) -> Result<(), Refusal> {
             // that node's children, and xy|z links only these two.
             let start = largest(&groups, x, y) | largest(&groups, y, x);
             let by_chain = chain.rules_out(start, x, y, z);
-            if n <= 16 {
+            if n <= builds_up_to {
                 let before = r[triple];
                 r[triple] |= bit;
                 let none = !some_tree_holds(n, all(n), &r);
@@ -314,15 +330,70 @@ pub fn check(n: u64, table: &[u8], body: &[u8]) -> Result<(), Refusal> {
                 assert_eq!(none, by_chain, "PI, by trees or builds and by the chain");
             }
             if !by_chain {
-                return Err(Refusal::NotForced { triple });
+                return Some(triple);
             }
         }
     }
-    Ok(())
+    None
+}
+
+/// How many places the list has at least that is lent to loosening.
+pub const PLACES: usize = 62;
+
+/// Loosens a candidate: drops its groups that are not earned. Writes the final tree in the lent room and the dropped sets
+/// in the lent list. Returns the node count, and how many were dropped.
+pub fn loosen(n: u64, table: &[u8], body: &[u8], room: &mut [u8], list: &mut [u64]) -> Result<(usize, usize), Refusal> {
+    let (n, candidate) = checkable(n, table, body)?;
+    if room.len() < body.len() || list.len() < PLACES {
+        return Err(Refusal::Room);
+    }
+    let entered = without_fans(table);
+    let (tree, dropped) = loosened(n, &candidate, &entered, &mut |_| 0);
+    look_over(n, &candidate, &entered, &tree, &dropped);
+    list[..dropped.len()].copy_from_slice(&dropped);
+    Ok((put_body(&tree.preorder(), room)?, dropped.len()))
+}
+
+/// Holds a loosened tree against what the request says of it, and against other ways to find it.
+fn look_over(n: usize, candidate: &Tree, entered: &[u8], tree: &Tree, dropped: &[u64]) {
+    let sorted = |mut groups: Vec<u64>| {
+        groups.sort();
+        groups
+    };
+    let species = candidate.species().count_ones() as usize;
+    assert!(dropped.len() <= species.saturating_sub(2) && dropped.len() <= PLACES);
+    assert_eq!(*tree, tree.sorted());
+    let both = sorted([tree.groups(), dropped.to_vec()].concat());
+    assert_eq!(both, sorted(candidate.groups()), "the groups that are left and those that went are the candidate's");
+
+    // the whole check
+    if species <= 32 {
+        let passes = |tree: &Tree| {
+            let own = tree.triplets(n);
+            contradicted(n, &own, &resolved(&own, entered)).is_none() && not_forced(n, tree, entered, 6).is_none()
+        };
+        assert!(passes(tree), "the loosened tree passes the check");
+        assert_eq!(passes(candidate), dropped.is_empty(), "what passed before is left as it is, and nothing else");
+        if n <= 5 {
+            let mut finest: Vec<u64> = coarser(candidate).iter().filter(|t| passes(t)).flat_map(Tree::groups).collect();
+            finest.sort();
+            finest.dedup();
+            assert_eq!(sorted(tree.groups()), finest, "all the groups of all trees without some groups that pass");
+        }
+    }
+
+    // other orders
+    if species <= 16 && !dropped.is_empty() {
+        let last = loosened(n, candidate, entered, &mut |count| count - 1).0;
+        assert_eq!(last, *tree, "the last one first");
+        let mut random = Random::new(dropped.iter().fold(entered.len() as u64, |seed, set| seed.rotate_left(7) ^ set));
+        let any = loosened(n, candidate, entered, &mut |count| random.below(count)).0;
+        assert_eq!(any, *tree, "in any order");
+    }
 }
 
 /// R: the entered triplets on triples that the candidate resolves.
-fn resolved(own: &[u8], entered: &[u8]) -> Vec<u8> {
+pub fn resolved(own: &[u8], entered: &[u8]) -> Vec<u8> {
     own.iter().zip(entered).map(|(says, byte)| if *says == 0 { 0 } else { *byte }).collect()
 }
 

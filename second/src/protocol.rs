@@ -1,6 +1,6 @@
 //! How trial ends: inputs that are cut, too long, or just not too long, each as a run of its own.
 
-use crate::calls::{lines, Call, LONGEST, MOST_RECORDS};
+use crate::calls::{lines, Call, LONGEST, MOST_RECORDS, MOST_SETS};
 use crate::inputs::Inputs;
 use crate::programs::Feed;
 
@@ -17,6 +17,11 @@ fn short_calls() -> Vec<(Call, &'static str)> {
         (Call::Build { n: 2, set: 2, table: vec![], room: vec![9, 9] }, "0 1 | 255 1\n"),
         (Call::Veto { n: 3, set: 7, table: vec![3], room: vec![9; 10] }, "0 4 | 255 255 0 0 0 1 0 2 9 9\n"),
         (Call::Check { n: 3, table: vec![0], body: vec![255, 2] }, "0\n"),
+        // a list of 62 places would make a long call
+        (
+            Call::Loosen { n: 3, table: vec![8], body: vec![255, 2], room: vec![1, 2], list: vec![7, 7] },
+            "9 | 1 2 | 7 7\n",
+        ),
         (Call::Parse { n: 2, text: b"1:3;".to_vec(), room: vec![9, 9, 9] }, "0 1 | 255 1 9\n"),
         (Call::Render { n: 2, body: vec![255, 1], room: vec![9, 9, 9] }, "0 2 | 49 59 9\n"),
     ]
@@ -31,7 +36,7 @@ fn by_hand() -> Vec<Case> {
     case("no input".into(), vec![], "".into());
 
     let (first, line) = short_calls().remove(0);
-    for byte in [0, 10, b'R', b'x', 255] {
+    for byte in [0, 10, b'R', b'X', b'y', 255] {
         case(format!("call byte {byte}"), vec![byte], "cut\n".into());
     }
     let after = [first.bytes(), vec![b'a'], first.bytes()].concat();
@@ -52,6 +57,10 @@ fn by_hand() -> Vec<Case> {
     // a length or a count one too large, all its bytes there, and a call behind it
     let longer = vec![0; LONGEST + 1];
     let records = vec![[0, 1, 2]; MOST_RECORDS + 1];
+    let leaf = |table: &[u8], body: &[u8], room: &[u8], sets: usize| {
+        let (table, body, room) = (table.to_vec(), body.to_vec(), room.to_vec());
+        Call::Loosen { n: 3, table, body, room, list: vec![7; sets] }
+    };
     let long = [
         ("r", Call::Read { bytes: longer.clone() }),
         ("l, first", Call::List { bytes: longer.clone(), table: vec![] }),
@@ -66,6 +75,11 @@ fn by_hand() -> Vec<Case> {
         ("v, room", Call::Veto { n: 3, set: 7, table: vec![0], room: longer.clone() }),
         ("c, table", Call::Check { n: 3, table: longer.clone(), body: vec![] }),
         ("c, body", Call::Check { n: 3, table: vec![0], body: longer.clone() }),
+        ("x, table", leaf(&longer, &[255, 0], &[9, 9], 62)),
+        ("x, body", leaf(&[0], &longer, &[9, 9], 62)),
+        ("x, room", leaf(&[0], &[255, 0], &longer, 62)),
+        ("x, list", leaf(&[0], &[255, 0], &[9, 9], MOST_SETS + 1)),
+        ("x, empty but for the list", leaf(&[], &[], &[], MOST_SETS + 1)),
         ("n, text", Call::Parse { n: 3, text: longer.clone(), room: vec![] }),
         ("n, room", Call::Parse { n: 3, text: b"0;".to_vec(), room: longer.clone() }),
         ("w, body", Call::Render { n: 3, body: longer.clone(), room: vec![] }),
@@ -79,6 +93,16 @@ fn by_hand() -> Vec<Case> {
         let input = [&b"r"[..], &length.to_be_bytes(), &[1, 1, 0]].concat();
         case(format!("r, length {length}"), input, "cut\n".into());
     }
+    // 8,192 sets have 65,536 bytes; the count is a number of sets
+    let no_list = leaf(&[0], &[255, 0], &[9, 9], 0).bytes();
+    case("x, no list".into(), no_list.clone(), "9 | 9 9 |\n".into());
+    for count in [MOST_SETS as u32 + 1, LONGEST as u32, 0x2000_0000, 0x8000_0000, u32::MAX] {
+        let input = [&no_list[..no_list.len() - 4], &count.to_be_bytes(), &[0; 8]].concat();
+        case(format!("x, count {count}"), input, "cut\n".into());
+    }
+    let (nines, sevens) = (" 9".repeat(LONGEST - 2), " 7".repeat(MOST_SETS));
+    let whole = leaf(&[0], &[255, 0], &vec![9; LONGEST], MOST_SETS).bytes();
+    case("x, whole, the longest room and list".into(), whole, format!("0 1 0 | 255 0{nines} |{sevens}\n"));
     cases
 }
 
@@ -91,6 +115,8 @@ fn longest() -> Vec<Case> {
     records.resize(MOST_RECORDS, [1, 0, 2]);
     let mut last_bad = records.clone();
     last_bad[MOST_RECORDS - 1] = [1, 0, 3];
+    let sets: Vec<u64> = (0..MOST_SETS as u64).map(|k| k << (k % 50)).collect();
+    let cherry = vec![255, 255, 0, 2, 0, 255, 2, 1, 2, 0];
     let calls = [
         Call::Read { bytes: good.clone() },
         Call::List { bytes: good, table: nines.clone() },
@@ -107,6 +133,9 @@ fn longest() -> Vec<Case> {
         Call::Veto { n: 3, set: 7, table: vec![7], room: nines.clone() },
         Call::Check { n: 64, table: nines.clone(), body: nines.clone() },
         Call::Check { n: 3, table: vec![1], body: nines.clone() },
+        Call::Loosen { n: 64, table: nines.clone(), body: nines.clone(), room: nines.clone(), list: sets.clone() },
+        Call::Loosen { n: 3, table: vec![1], body: nines.clone(), room: nines.clone(), list: sets.clone() },
+        Call::Loosen { n: 3, table: vec![0], body: cherry, room: nines.clone(), list: sets },
         Call::Parse { n: 3, text: vec![b' '; LONGEST], room: nines.clone() },
         Call::Parse { n: 3, text: b"(2,0);".to_vec(), room: nines.clone() },
         Call::Render { n: 3, body: nines.clone(), room: nines.clone() },
@@ -117,7 +146,7 @@ fn longest() -> Vec<Case> {
         .map(|call| {
             let input = call.bytes();
             let says = lines(&input);
-            (format!("{}, 65,536 bytes or 21,845 records", call.letter()), input, Feed::Whole, says)
+            (format!("{}, 65,536 bytes, 21,845 records or 8,192 sets", call.letter()), input, Feed::Whole, says)
         })
         .collect()
 }
@@ -127,10 +156,12 @@ fn left_open() -> Vec<Case> {
     let (first, line) = short_calls().remove(0);
     let length = (LONGEST as u32 + 1).to_be_bytes();
     let count = [&b"e"[..], &3u64.to_be_bytes(), &(MOST_RECORDS as u32 + 1).to_be_bytes()].concat();
+    let sets = [&b"x"[..], &3u64.to_be_bytes(), &[0; 12], &(MOST_SETS as u32 + 1).to_be_bytes()].concat();
     let cut = [
-        ("call byte 120", b"x".to_vec()),
+        ("call byte 121", b"y".to_vec()),
         ("r one too long", [&b"r"[..], &length].concat()),
         ("e, count one too large", count),
+        ("x, count one too large", sets),
     ];
     cut.into_iter()
         .map(|(name, call)| {
@@ -148,7 +179,7 @@ fn in_pieces(seed: u64) -> Vec<Case> {
         let mut input = Vec::new();
         while input.len() < 60 * most {
             let call = inputs.call(0);
-            if call.bytes().len() < 200 {
+            if call.bytes().len() < 800 {
                 call.put(&mut input);
             }
         }

@@ -1,13 +1,16 @@
 //! What trial wrote is handed to it again: text that it wrote is read, and bodies that it read are written. And of all
 //! the bodies that it wrote, two have equal text exactly when they have the same groups (document 02, T-02). What it
-//! listed of one tree is built over the set that it returned (T-03); what it listed of trees that quarrel, with a veto (T-06).
+//! listed of one tree is built over the set that it returned (T-03); what it listed of trees that quarrel, with a veto (T-06),
+//! and the tree that it built so is loosened (T-07).
 
 use std::collections::BTreeMap;
+use std::str::FromStr;
 
 use crate::calls::Call;
 use crate::compare::Comparison;
 use crate::exhaustive::{bodies, collection, trees};
 use crate::inputs::Inputs;
+use crate::operations::PLACES;
 use crate::programs::{Program, Run};
 use crate::trees::Tree;
 use crate::triples::choose;
@@ -17,8 +20,9 @@ use crate::writer;
 const FAMILIES: usize = 3_000;
 const TEXTS: usize = 10_000;
 
-/// How many collections there are whose trees mostly quarrel.
+/// How many collections there are whose trees mostly quarrel, and how many of small trees.
 const QUARRELS: usize = 5_000;
+const SMALL: usize = 3_000;
 
 /// Tables of more than 16 species are long: of the trees with more, one in so many is listed and built.
 const LARGE_IN: usize = 50;
@@ -29,12 +33,23 @@ type Handed = (u64, Vec<u8>);
 /// n, the set that occurs and the table, of a collection that was listed.
 type Listed = (u64, u64, Vec<u8>);
 
-/// The values of a line of 0, and what was lent.
+/// The numbers of a piece of a line.
+fn numbers<T: FromStr>(piece: &str) -> Option<Vec<T>> {
+    piece.split_whitespace().map(|number| number.parse().ok()).collect()
+}
+
+/// The values of a line of 0, and the bytes that were lent.
 fn done(line: &str) -> Option<(Vec<u64>, Vec<u8>)> {
-    let (told, lent) = line.trim_end().split_once(" |")?;
-    let values = told.strip_prefix("0 ")?.split(' ').map(|value| value.parse().ok()).collect::<Option<_>>()?;
-    let lent = lent.split_whitespace().map(|byte| byte.parse().ok()).collect::<Option<_>>()?;
-    Some((values, lent))
+    let mut pieces = line.split('|');
+    let values = numbers(pieces.next()?.strip_prefix("0 ")?)?;
+    Some((values, numbers(pieces.next()?)?))
+}
+
+/// The sets that were dropped, of a line of 0.
+fn dropped(line: &str) -> Option<Vec<u64>> {
+    let mut sets = numbers(line.rsplit('|').next()?)?;
+    sets.truncate(*done(line)?.0.get(1)? as usize);
+    Some(sets)
 }
 
 /// What stands at the front of the room in each of the lines, of which all have to be of 0.
@@ -123,20 +138,17 @@ fn listed(comparison: &mut Comparison, collections: &[(usize, Vec<u8>)]) -> Opti
     tables.collect()
 }
 
-/// Papers that mostly quarrel, built with a veto over the set that occurs: there is a tree, the check does not find it
-/// contradicted, and where the plain build gives a tree it is the same.
+/// Papers that mostly quarrel, and small ones, built with a veto over the set that occurs: there is a tree, the check does
+/// not find it contradicted, and where the plain build gives a tree it is the same.
 fn vetoed(comparison: &mut Comparison, inputs: &mut Inputs) -> Option<()> {
-    let collections: Vec<(usize, Vec<u8>)> = (0..QUARRELS).map(|_| inputs.quarrel_collection()).collect();
+    let mut collections: Vec<(usize, Vec<u8>)> = (0..QUARRELS).map(|_| inputs.quarrel_collection()).collect();
+    collections.extend((0..SMALL).map(|_| inputs.small_collection()));
     let tables = listed(comparison, &collections)?;
     let (builds, vetoes): (Vec<Call>, Vec<Call>) = tables.iter().map(|listed| both_builds(listed).into()).unzip();
     let plain = comparison.lines(&builds);
     let lines = comparison.lines(&vetoes);
     let trees = fronts(&lines, 2)?;
-    let check = |((n, _, table), body): (&Listed, &Vec<u8>)| {
-        let (table, body) = (table.clone(), body.clone());
-        Call::Check { n: *n, table, body }
-    };
-    let checks: Vec<Call> = tables.iter().zip(&trees).map(check).collect();
+    let checks = checks(&tables, &trees);
     let checked = comparison.lines(&checks);
     let mut quarrels = 0;
     for k in 0..trees.len() {
@@ -153,6 +165,60 @@ fn vetoed(comparison: &mut Comparison, inputs: &mut Inputs) -> Option<()> {
         }
     }
     println!("second: {} collections built with a veto, of which {quarrels} quarrel", trees.len());
+    loosened(comparison, &tables, &trees)
+}
+
+/// Checks each of the trees against its table.
+fn checks(tables: &[Listed], trees: &[Vec<u8>]) -> Vec<Call> {
+    let check = |((n, _, table), body): (&Listed, &Vec<u8>)| {
+        let (table, body) = (table.clone(), body.clone());
+        Call::Check { n: *n, table, body }
+    };
+    tables.iter().zip(trees).map(check).collect()
+}
+
+/// Loosens each of the trees by its table, in a room and a list that are just enough.
+fn loosens(tables: &[Listed], trees: &[Vec<u8>]) -> Vec<Call> {
+    let loosen = |((n, _, table), body): (&Listed, &Vec<u8>)| {
+        let (table, body) = (table.clone(), body.clone());
+        let room = vec![9; body.len()];
+        Call::Loosen { n: *n, table, body, room, list: vec![1; PLACES] }
+    };
+    tables.iter().zip(trees).map(loosen).collect()
+}
+
+/// Trees that their tables do not contradict, loosened: what is left passes the check, has the tree's groups but for the
+/// dropped ones, and is left as it is when it is loosened again.
+fn loosened(comparison: &mut Comparison, tables: &[Listed], trees: &[Vec<u8>]) -> Option<()> {
+    let calls = loosens(tables, trees);
+    let lines = comparison.lines(&calls);
+    let loose = fronts(&lines, 2)?;
+    let checks = checks(tables, &loose);
+    let checked = comparison.lines(&checks);
+    let again = loosens(tables, &loose);
+    let lines_again = comparison.lines(&again);
+    let mut some = 0;
+    for k in 0..trees.len() {
+        let [line, checked, line_again] = [&lines[k], &checked[k], &lines_again[k]].map(Option::as_deref);
+        let (line, checked, line_again) = (line?, checked?, line_again?);
+        let gone = dropped(line)?;
+        some += usize::from(!gone.is_empty());
+        let mut left = [Tree::from_body(&loose[k]).groups(), gone].concat();
+        let mut before = Tree::from_body(&trees[k]).groups();
+        left.sort();
+        before.sort();
+        let stays = done(line_again)?.1 == loose[k] && dropped(line_again)?.is_empty();
+        for (good, note, call, wrote) in [
+            (left == before, "the groups that are left and those that went are not the tree's", &calls[k], line),
+            (checked.trim_end() == "0", "the loosened tree does not pass the check", &checks[k], checked),
+            (stays, "a loosened tree is not left as it is", &again[k], line_again),
+        ] {
+            if !good && !comparison.enough() {
+                differs(comparison, note, &[call.clone()], wrote.as_bytes(), b"");
+            }
+        }
+    }
+    println!("second: {} trees so built and loosened, of which {some} lose a group", trees.len());
     Some(())
 }
 

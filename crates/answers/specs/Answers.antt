@@ -20,6 +20,8 @@ pub data Name : Type 0 where
   text-length : Name
   -- request T-03: "Listing and entering now also return the set that occurs"
   occurring-set : Name
+  -- request T-07: "return the node count and how many were dropped"
+  dropped-count : Name
 
 -- a number with its name; or the fault of 6, with its own data
 pub data Value : Type 0 where

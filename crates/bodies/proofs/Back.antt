@@ -1,20 +1,20 @@
 -- The body of a tree: it is good, the tree is read back from it, and it has its room. Assumes nothing.
 use mathlib.Core.Path.{_≡_, refl, sym, ap, fun-ext, _∙_}
-use mathlib.Core.Bool.{Bool, true, false, _||_, So}
+use mathlib.Core.Bool.{false, So}
 use mathlib.Core.List.{List, [], _∷_, _++_, append-nil, append-assoc}
-use Prim.Native.Nat.{ℕ, zero, suc, _+_, _*_, _%_, _^_, _≤_, _<_}
+use Prim.Native.Nat.{ℕ, suc, _+_, _*_, _%_, _^_, _≤_, _<_}
 use native.Mathlib.Omega.{arith}
 use borrow.Author.Tests.{eq-eqb, ne-eqb, le-ltb}
 use lib.ListN.{length, getD, drop, length-append}
 use lib.Seq.{getD-drop, drop-drop, drop-at}
-use Rattle.sets.specs.Species.{Species, Below, either, from, members, put}
+use Rattle.sets.specs.Species.{Species, Below, members}
 use Rattle.sets.specs.Sets.{has, size}
-use Rattle.sets.proofs.Bools.{or-l, or-r}
-use Rattle.sets.proofs.Members.{from-one, from-bound}
+use Rattle.sets.proofs.Members.{members-bound}
 use Rattle.sets.proofs.Sizes.{size-members}
 use Rattle.sets.proofs.Tests.{has-below}
-use Rattle.trees.specs.Trees.{Tree, Forest, leaf, node, nil, cons, under, underF, leaves, leavesF, degree, wellFormed}
+use Rattle.trees.specs.Trees.{Tree, Forest, leaf, node, nil, cons, under, leaves, leavesF, degree, wellFormed}
 use Rattle.trees.proofs.Formed.{Formed, FormedF, formed-e}
+use Rattle.trees.proofs.Sizes.{size-under}
 use Rattle.bodies.specs.Nodes.{nodes, width, mostNodes, bodyLength, longest, badLength, roomFor, Good}
 use Rattle.bodies.specs.Draws.{treeOf, nodeCount, nodeCountF, bytes, bytesF, bodyOf}
 use Rattle.bodies.proofs.Laid.{good-back, Lays, LaysF, count-pos, laid-good, laid-back}
@@ -72,40 +72,11 @@ mutual
   fewF nil w = omega arith
   fewF (cons t f) w = omega (arith, few t (w .0), fewF f (w .2), length-append (leaves t) (leavesF f))
 
-put-both : (a b : Bool) (i : ℕ) (l m k : List ℕ) → (So a → So b → ⊥) → length l + length m ≡ length k
-    → length (put a i l) + length (put b i m) ≡ length (put (a || b) i k)
-put-both true true i l m k d e = absurd (d refl refl)
-put-both true false i l m k d e = omega arith
-put-both false true i l m k d e = omega arith
-put-both false false i l m k d e = e
-
--- two sets with nothing in common
-from-both : (P Q : Species) → ((x : ℕ) → So (P x) → So (Q x) → ⊥) → (n i : ℕ) → length (from i n P) + length (from i n Q) ≡ length (from i n (either P Q))
-from-both P Q d zero i = refl
-from-both P Q d (suc n) i = put-both (P i) (Q i) i (from (suc i) n P) (from (suc i) n Q) (from (suc i) n (either P Q)) (d i) (from-both P Q d n (suc i))
-
-mutual
-  leaves-from : (n : ℕ) (t : Tree) → Formed t → Below n (under t) → length (leaves t) ≤ length (from 0 n (under t))
-  leaves-from n (leaf x) w bd =
-      let h = eq-eqb x x refl in
-      from-one (under (leaf x)) n 0 x (omega arith) (omega (arith, bd x h)) h
-  leaves-from n (node f) w bd = leaves-fromF n f (w .1) bd
-
-  leaves-fromF : (n : ℕ) (f : Forest) → FormedF f → Below n (underF f) → length (leavesF f) ≤ length (from 0 n (underF f))
-  leaves-fromF n nil w bd = omega arith
-  leaves-fromF n (cons t f) w bd = omega (
-    arith,
-    length-append (leaves t) (leavesF f),
-    leaves-from n t (w .0) (λ x i. bd x (or-l (under t x) (underF f x) i)),
-    leaves-fromF n f (w .2) (λ x i. bd x (or-r (under t x) (underF f x) i)),
-    from-both (under t) (underF f) (w .1) n 0,
-  )
-
 pub nodes-few : (t : Tree) → So (wellFormed t) → nodeCount t + 1 ≤ 2 * length (leaves t)
 nodes-few t w = few t (formed-e t w)
 
 pub leaves-few : (n : ℕ) (t : Tree) → So (wellFormed t) → Below n (under t) → length (leaves t) ≤ n
-leaves-few n t w bd = omega (arith, leaves-from n t (formed-e t w) bd, from-bound (under t) n 0)
+leaves-few n t w bd = omega (arith, size-under n t (formed-e t w) bd, members-bound n (under t))
 
 -- ---- the body
 
@@ -121,7 +92,7 @@ good-length k p h =
     let m : bodyLength k % width ≡ 0 = omega arith in
     rw (ne-eqb (bodyLength k) 0 z, eq-eqb (bodyLength k % width) 0 m) (le-ltb longest (bodyLength k) (omega arith))
 
-lays-body : (t : Tree) → Lays (nodes (bodyOf t)) t 255 0
+pub lays-body : (t : Tree) → Lays (nodes (bodyOf t)) t 255 0
 lays-body t = lays-bytes (bodyOf t) [] t 255 0 (sym (append-nil (bodyOf t)))
 
 -- a body of a tree, if it is good, draws that tree
@@ -144,8 +115,7 @@ module _ (n : ℕ) (t : Tree) (w : So (wellFormed t)) (bd : Below n (under t)) w
 
 -- a tree with exactly the species of a set
 pub set-room : (n s : ℕ) → s < 2 ^ n → (t : Tree) → So (wellFormed t) → ((x : ℕ) → under t x ≡ has s x) → length (bodyOf t) ≤ roomFor (size s)
-unfolding members
 set-room n s h t w e =
     let bd : Below n (under t) = λ x i. has-below n s h x (sym (e x) ∙ i) in
-    let l : length (from 0 n (under t)) ≡ size s = ap (λ (S : Species). length (from 0 n S)) (fun-ext e) ∙ sym (size-members n s h) in
-    omega (arith, body-length t, nodes-few t w, leaves-from n t (formed-e t w) bd)
+    let l : length (members n (under t)) ≡ size s = ap (λ (S : Species). length (members n S)) (fun-ext e) ∙ sym (size-members n s h) in
+    omega (arith, body-length t, nodes-few t w, size-under n t (formed-e t w) bd)

@@ -87,20 +87,20 @@ module _ (v : Nodes) where
       (among-kids f p (at + nodeCount t) (omega arith) (l .1))
 
   -- no node behind the m nodes from at on has one of them for its parent
-  abbrev Outside : ℕ → ℕ → Type 0
+  abbrev pub Outside : ℕ → ℕ → Type 0
   Outside at m = (c : ℕ) → at + m ≤ c → c < v .count → at ≤ v .parent c → v .parent c < at + m → ⊥
 
-  outside-first : (t : Tree) (f : Forest) (p at : ℕ) → p < at → LaysF v f p (at + nodeCount t) → Outside at (nodeCount t + nodeCountF f) → Outside at (nodeCount t)
+  pub outside-first : (t : Tree) (f : Forest) (p at : ℕ) → p < at → LaysF v f p (at + nodeCount t) → Outside at (nodeCount t + nodeCountF f) → Outside at (nodeCount t)
   outside-first t f p at q l o c h m a b = go (decLt c (at + (nodeCount t + nodeCountF f)))
     where
       go : Dec (c < at + (nodeCount t + nodeCountF f)) → ⊥
       go (yes k) = ⊎-elim {C = ⊥} (λ z. omega arith) (λ z. omega arith) (parentsF f p (at + nodeCount t) (omega arith) l c h (omega arith) .0)
       go (no k) = o c (omega arith) m a (omega arith)
 
-  outside-rest : (t : Tree) (f : Forest) (at : ℕ) → Outside at (nodeCount t + nodeCountF f) → Outside (at + nodeCount t) (nodeCountF f)
+  pub outside-rest : (t : Tree) (f : Forest) (at : ℕ) → Outside at (nodeCount t + nodeCountF f) → Outside (at + nodeCount t) (nodeCountF f)
   outside-rest t f at o c h m a b = o c (omega arith) m (omega arith) (omega arith)
 
-  outside-kids : (f : Forest) (at : ℕ) → Outside at (suc (nodeCountF f)) → Outside (suc at) (nodeCountF f)
+  pub outside-kids : (f : Forest) (at : ℕ) → Outside at (suc (nodeCountF f)) → Outside (suc at) (nodeCountF f)
   outside-kids f at o c h m a b = o c (omega arith) m (omega arith) (omega arith)
 
   children-at : ((c : ℕ) → 0 < c → c < v .count → v .parent c < c) → (f : Forest) (at : ℕ) → LaysF v f at (suc at) → Outside at (suc (nodeCountF f))
@@ -203,7 +203,7 @@ module _ (v : Nodes) where
 
   module _ (n : ℕ) (small : n ≤ 255) (g : Good n v) where
     mutual
-      back : (u : Tree) (p at : ℕ) → Lays v u p at → Outside at (nodeCount u) → at + nodeCount u ≤ v .count → subtree v at ≡ u
+      pub back : (u : Tree) (p at : ℕ) → Lays v u p at → Outside at (nodeCount u) → at + nodeCount u ≤ v .count → subtree v at ≡ u
       back (leaf x) p at l o h =
           subtree-eq n v g at (omega arith)
           ∙ ap (λ (z : List ℕ). grow (v .species at) (forestOf (subtree v) z)) (children-at (g .later) nil at tt o h) ∙ ap leaf (l .1)

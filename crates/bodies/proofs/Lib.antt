@@ -10,3 +10,5 @@ pub mod Housed
 pub mod Houses
 pub mod Stores
 pub mod Written
+pub mod Puts
+pub mod Preorder

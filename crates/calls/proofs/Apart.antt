@@ -1,10 +1,10 @@
 -- The bytes of a call say where it ends, and which call it is. Assumes nothing.
-use mathlib.Core.List.{List, _∷_, _++_, append-assoc}
-use mathlib.Core.Path.{_∙_, _≡_, ap, refl, subst, sym}
+use mathlib.Core.List.{List, [], _∷_, _++_, append-assoc}
+use mathlib.Core.Path.{_∙_, _≡_, ap, ap₂, refl, subst, sym}
 use Prim.Native.Nat.{ℕ, zero, suc, _*_, _<_}
 use lib.ListN.{drop, getD, length, take}
 use lib.Seq.{drop-at, take-at}
-use Rattle.calls.specs.Calls.{CallBytes, FieldBytes, ItemBytes, NumberBytes, shape}
+use Rattle.calls.specs.Calls.{CallBytes, FieldBytes, FieldsBytes, HeadBytes, ItemBytes, NumberBytes, Then, itemSizes, shape}
 use Rattle.calls.specs.Numbers.{eightAt, fourAt}
 
 -- two fronts of one list that are equally long are the same
@@ -25,16 +25,33 @@ field-apart : (item : ℕ) (x x′ t t′ u u′ : List ℕ) → FieldBytes item
 field-apart zero x x′ t t′ u u′ f g e = (f .0 ∙ sym (g .0), ap (λ (s : List ℕ). s ++ u) (sym (f .1)) ∙ e ∙ ap (λ (s : List ℕ). s ++ u′) (g .1))
 field-apart (suc item) x x′ t t′ u u′ f g e = items-apart (suc item) x x′ t t′ u u′ f g e
 
--- where two calls begin with the same bytes, whatever follows them, they are the same, and the same follows
-pub calls-apart : (k k′ : ℕ) (ns ns′ x x′ y y′ t t′ u u′ : List ℕ) → CallBytes k ns x y t → CallBytes k′ ns′ x′ y′ t′ → t ++ u ≡ t′ ++ u′ → (k ≡ k′) × ((j : ℕ) → j < shape k .numbers → getD ns j 0 ≡ getD ns′ j 0) × (x ≡ x′) × (y ≡ y′) × (u ≡ u′)
-calls-apart k k′ ns ns′ x x′ y y′ t t′ u u′ f g e =
-    let d = sym (in-order k ns x y t u f) ∙ e ∙ in-order k′ ns′ x′ y′ t′ u′ g in
+-- what stands behind the one stands behind the other
+then-order : {P Q : List ℕ → Type 0} {t : List ℕ} (f : Then P Q t) (u : List ℕ) → t ++ u ≡ f .front ++ (f .back ++ u)
+then-order f u = ap (λ (s : List ℕ). s ++ u) (f .same) ∙ append-assoc (f .front) (f .back) u
+
+fields-apart : (sizes : List ℕ) (xs xs′ : List (List ℕ)) (t t′ u u′ : List ℕ) → FieldsBytes sizes xs t → FieldsBytes sizes xs′ t′ → t ++ u ≡ t′ ++ u′ → (xs ≡ xs′) × (u ≡ u′)
+fields-apart [] [] [] t t′ u u′ f g e = (refl, ap (λ (s : List ℕ). s ++ u) (sym f) ∙ e ∙ ap (λ (s : List ℕ). s ++ u′) g)
+fields-apart [] [] (x′ ∷ xs′) t t′ u u′ f g e = absurd g
+fields-apart [] (x ∷ xs) xs′ t t′ u u′ f g e = absurd f
+fields-apart (item ∷ sizes) [] xs′ t t′ u u′ f g e = absurd f
+fields-apart (item ∷ sizes) (x ∷ xs) [] t t′ u u′ f g e = absurd g
+fields-apart (item ∷ sizes) (x ∷ xs) (x′ ∷ xs′) t t′ u u′ f g e =
+    let a = field-apart item x x′ (f .front) (g .front) (f .back ++ u) (g .back ++ u′) (f .isFront) (g .isFront) (sym (then-order f u) ∙ e ∙ then-order g u′) in
+    let b = fields-apart sizes xs xs′ (f .back) (g .back) u u′ (f .isBack) (g .isBack) (a .1) in
+    (ap₂ (λ (y : List ℕ) (ys : List (List ℕ)). y ∷ ys) (a .0) (b .0), b .1)
+
+head-apart : (k k′ : ℕ) (ns ns′ t t′ u u′ : List ℕ) → HeadBytes k ns t → HeadBytes k′ ns′ t′ → t ++ u ≡ t′ ++ u′ → (k ≡ k′) × ((j : ℕ) → j < shape k .numbers → getD ns j 0 ≡ getD ns′ j 0) × (u ≡ u′)
+head-apart k k′ ns ns′ t t′ u u′ f g e =
+    let d = ap (λ (s : List ℕ). s ++ u) (sym (f .same)) ∙ e ∙ ap (λ (s : List ℕ). s ++ u′) (g .same) in
     let h = ap (λ (s : List ℕ). getD s 0 0) d in
-    let n = subst (λ (z : ℕ). NumberBytes (shape z .numbers) ns′ (g .isHead .numbers)) (sym h) (g .isHead .areNumbers) in
-    let a = split (f .isHead .numbers) (g .isHead .numbers) (f .first ++ (f .second ++ u)) (g .first ++ (g .second ++ u′)) (f .isHead .areNumbers .0 ∙ sym (n .0)) (ap (λ (s : List ℕ). drop 1 s) d) in
-    let b = field-apart (shape k .first) x x′ (f .first) (g .first) (f .second ++ u) (g .second ++ u′) (f .isFirst) (subst (λ (z : ℕ). FieldBytes (shape z .first) x′ (g .first)) (sym h) (g .isFirst)) (a .1) in
-    let c = field-apart (shape k .second) y y′ (f .second) (g .second) u u′ (f .isSecond) (subst (λ (z : ℕ). FieldBytes (shape z .second) y′ (g .second)) (sym h) (g .isSecond)) (b .1) in
-    (h, λ j i. f .isHead .areNumbers .1 j i ∙ ap (λ (s : List ℕ). eightAt s (8 * j)) (a .0) ∙ sym (n .1 j i), b .0, c .0, c .1)
-  where
-    in-order : (k : ℕ) (ns x y t u : List ℕ) (f : CallBytes k ns x y t) → t ++ u ≡ k ∷ (f .isHead .numbers ++ (f .first ++ (f .second ++ u)))
-    in-order k ns x y t u f = rw (f .same, f .isHead .same, append-assoc (f .isHead .numbers) (f .first ++ f .second) u, append-assoc (f .first) (f .second) u)
+    let n = subst (λ (z : ℕ). NumberBytes (shape z .numbers) ns′ (g .numbers)) (sym h) (g .areNumbers) in
+    let a = split (f .numbers) (g .numbers) u u′ (f .areNumbers .0 ∙ sym (n .0)) (ap (λ (s : List ℕ). drop 1 s) d) in
+    (h, λ j i. f .areNumbers .1 j i ∙ ap (λ (s : List ℕ). eightAt s (8 * j)) (a .0) ∙ sym (n .1 j i), a .1)
+
+-- where two calls begin with the same bytes, whatever follows them, they are the same, and the same follows
+pub calls-apart : (k k′ : ℕ) (ns ns′ : List ℕ) (xs xs′ : List (List ℕ)) (t t′ u u′ : List ℕ) → CallBytes k ns xs t → CallBytes k′ ns′ xs′ t′ → t ++ u ≡ t′ ++ u′ → (k ≡ k′) × ((j : ℕ) → j < shape k .numbers → getD ns j 0 ≡ getD ns′ j 0) × (xs ≡ xs′) × (u ≡ u′)
+calls-apart k k′ ns ns′ xs xs′ t t′ u u′ f g e =
+    let a = head-apart k k′ ns ns′ (f .front) (g .front) (f .back ++ u) (g .back ++ u′) (f .isFront) (g .isFront) (sym (then-order f u) ∙ e ∙ then-order g u′) in
+    let h = subst (λ (z : ℕ). FieldsBytes (itemSizes (shape z)) xs′ (g .back)) (sym (a .0)) (g .isBack) in
+    let b = fields-apart (itemSizes (shape k)) xs xs′ (f .back) (g .back) u u′ (f .isBack) h (a .2) in
+    (a .0, a .1, b .0, b .1)

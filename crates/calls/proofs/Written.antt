@@ -7,7 +7,7 @@ use native.Mathlib.Omega.{arith}
 use lib.ListN.{getD, length, take}
 use lib.Seq.{getD-take, length-take-le, take-all}
 use Rattle.calls.proofs.Reading.{some-both, some-none, some-took, took-both}
-use Rattle.calls.specs.Calls.{CallBytes, CountBytes, FieldBytes, HeadBytes, NumberBytes, shape}
+use Rattle.calls.specs.Calls.{CallBytes, CountBytes, FieldBytes, FieldsBytes, HeadBytes, NumberBytes, Then, itemSizes, shape}
 use Rattle.calls.specs.Inputs.{InBuffer, Took, TookSome}
 use Rattle.calls.specs.Numbers.{eightAt, fourAt}
 use Rattle.calls.specs.declared.Shape.{Shape}
@@ -63,25 +63,13 @@ items (suc item) n x s h c e = record { items = n; long = e; count = s; isCount 
 pub field-both : {i j k : Input} {b c d : List ℕ} (item n : ℕ) (x : List ℕ) → (item ≡ 0 → ⊥) → length x ≡ item * n → TookSome (CountBytes n) i b j c → Took j c x k d → TookSome (FieldBytes item x) i b k d
 field-both item n x h e p q = some-both {Q = λ (t : List ℕ). t ≡ x} (λ s t y z. rw z (items item n x s h y e)) p (some-took q refl)
 
--- the head, and then both fields
-pub call-both : {i f g l : Input} {b c d e : List ℕ} (k : ℕ) (ns x y : List ℕ) (s : Shape) → s ≡ shape k →
-    TookSome (HeadBytes k ns) i b f c → TookSome (FieldBytes (s .first) x) f c g d → TookSome (FieldBytes (s .second) y) g d l e → TookSome (CallBytes k ns x y) i b l e
-call-both k ns x y s h p q r = record {
-  inside = r .inside;
-  took = λ w.
-      let v = r .took w in
-      let u = q .took (v .1 .uncut w) in
-      let t = p .took (u .1 .uncut (v .1 .uncut w)) in (
-        t .0 ++ (u .0 ++ v .0),
-        took-both (t .1) (took-both (u .1) (v .1)),
-        record {
-          head = t .0;
-          first = u .0;
-          second = v .0;
-          isHead = t .2;
-          isFirst = subst (λ (z : Shape). FieldBytes (z .first) x (u .0)) h (u .2);
-          isSecond = subst (λ (z : Shape). FieldBytes (z .second) y (v .0)) h (v .2);
-          same = refl;
-        },
-      );
-}
+-- first the ones, and then the others
+then-both : {P Q : List ℕ → Type 0} {i j k : Input} {b c d : List ℕ} → TookSome P i b j c → TookSome Q j c k d → TookSome (Then P Q) i b k d
+then-both = some-both λ s t p q. record { front = s; back = t; isFront = p; isBack = q; same = refl }
+
+-- the head, and then the fields
+pub call-both : {i f g h j l : Input} {b c d e o r : List ℕ} (k : ℕ) (ns x y z w : List ℕ) (s : Shape) → s ≡ shape k →
+    TookSome (HeadBytes k ns) i b f c → TookSome (FieldBytes (s .first) x) f c g d → TookSome (FieldBytes (s .second) y) g d h e → TookSome (FieldBytes (s .third) z) h e j o → TookSome (FieldBytes (s .fourth) w) j o l r → TookSome (CallBytes k ns (x ∷ y ∷ z ∷ w ∷ [])) i b l r
+call-both {f = f} {l = l} {c = c} {r = r} k ns x y z w s e p first second third fourth =
+    let all = then-both first (then-both second (then-both third (then-both fourth (some-none (fourth .inside) refl)))) in
+    then-both p (subst (λ (q : Shape). TookSome (FieldsBytes (itemSizes q) (x ∷ y ∷ z ∷ w ∷ [])) f c l r) e all)

@@ -1,4 +1,4 @@
--- How a call is written: its byte, then its numbers, then its two fields. The form is ours: `second/README.md`, "The calls".
+-- How a call is written: its byte, then its numbers, then its fields, four at most. The form is ours: `second/README.md`, "The calls".
 use mathlib.Core.Bool.{cond, false, true}
 use mathlib.Core.List.{List, [], _∷_, _++_}
 use mathlib.Core.Path.{_≡_}
@@ -12,25 +12,30 @@ use Rattle.calls.specs.declared.Shape.{Shape}
 use Rattle.calls.specs.declared.input.Input.{Input}
 
 -- what follows the byte of a call: how many numbers, and how many bytes an item of each field has; 0 where the call has no such field
-abbrev pub row : ℕ → ℕ → ℕ → Shape
-row n x y = record { known = true; numbers = n; first = x; second = y }
+abbrev pub row : ℕ → ℕ → ℕ → ℕ → ℕ → Shape
+row n x y z w = record { known = true; numbers = n; first = x; second = y; third = z; fourth = w }
 
 -- there is no such call
 abbrev pub unknown : Shape
-unknown = record { known = false; numbers = 0; first = 0; second = 0 }
+unknown = record { known = false; numbers = 0; first = 0; second = 0; third = 0; fourth = 0 }
 
--- the table of calls: r reads, l lists, e enters, o puts in house order, b builds, v makes the veto build, c checks, n reads a Newick text, w writes one
+-- the table of calls: r reads, l lists, e enters, o puts in house order, b builds, v makes the veto build, c checks, n reads a Newick text, w writes one, x loosens
 unfoldable pub shape : ℕ → Shape
 shape k =
-    cond (eqb k 114) (row 0 1 0) (
-    cond (eqb k 108) (row 0 1 1) (
-    cond (eqb k 101) (row 1 3 1) (
-    cond (eqb k 111) (row 1 1 1) (
-    cond (eqb k 98) (row 2 1 1) (
-    cond (eqb k 118) (row 2 1 1) (
-    cond (eqb k 99) (row 1 1 1) (
-    cond (eqb k 110) (row 1 1 1) (
-    cond (eqb k 119) (row 1 1 1) unknown))))))))
+    cond (eqb k 114) (row 0 1 0 0 0) (
+    cond (eqb k 108) (row 0 1 1 0 0) (
+    cond (eqb k 101) (row 1 3 1 0 0) (
+    cond (eqb k 111) (row 1 1 1 0 0) (
+    cond (eqb k 98) (row 2 1 1 0 0) (
+    cond (eqb k 118) (row 2 1 1 0 0) (
+    cond (eqb k 99) (row 1 1 1 0 0) (
+    cond (eqb k 110) (row 1 1 1 0 0) (
+    cond (eqb k 119) (row 1 1 1 0 0) (
+    cond (eqb k 120) (row 1 1 1 1 8) unknown)))))))))
+
+-- how many bytes an item of each field has
+abbrev pub itemSizes : Shape → List ℕ
+itemSizes s = s .first ∷ s .second ∷ s .third ∷ s .fourth ∷ []
 
 -- the bytes t are the first m of the numbers ns, eight bytes each
 abbrev pub NumberBytes : ℕ → List ℕ → List ℕ → Type 0
@@ -60,17 +65,30 @@ pub record HeadBytes (k : ℕ) (ns t : List ℕ) : Type 0 where
   pub areNumbers : NumberBytes (shape k .numbers) ns numbers
   pub same : t ≡ k ∷ numbers
 
--- the bytes t are the call with the byte k, the numbers ns, and the fields x and y
-pub record CallBytes (k : ℕ) (ns x y t : List ℕ) : Type 0 where
-  pub head : List ℕ
-  pub first : List ℕ
-  pub second : List ℕ
-  pub isHead : HeadBytes k ns head
-  pub isFirst : FieldBytes (shape k .first) x first
-  pub isSecond : FieldBytes (shape k .second) y second
-  pub same : t ≡ head ++ (first ++ second)
+-- the bytes t are some of which P is true, and then some of which Q is true
+pub record Then (P Q : List ℕ → Type 0) (t : List ℕ) : Type 0 where
+  pub front : List ℕ
+  pub back : List ℕ
+  pub isFront : P front
+  pub isBack : Q back
+  pub same : t ≡ front ++ back
 
--- the call c was read of the input i with the buffer b, which is b′ now, and its fields to the fronts of x and y
-pub record ReadCall (i : Input) (b : List ℕ) (c : Call) (b′ x y : List ℕ) : Type 0 where
+-- the bytes t are the fields xs, one behind the other; `sizes` says how many bytes an item of each has
+abbrev pub FieldsBytes : List ℕ → List (List ℕ) → List ℕ → Type 0
+FieldsBytes [] [] t = t ≡ []
+FieldsBytes [] (x ∷ xs) t = ⊥
+FieldsBytes (item ∷ sizes) [] t = ⊥
+FieldsBytes (item ∷ sizes) (x ∷ xs) t = Then (FieldBytes item x) (FieldsBytes sizes xs) t
+
+-- the bytes t are the call with the byte k, the numbers ns, and the fields xs
+abbrev pub CallBytes : ℕ → List ℕ → List (List ℕ) → List ℕ → Type 0
+CallBytes k ns xs t = Then (HeadBytes k ns) (FieldsBytes (itemSizes (shape k)) xs) t
+
+-- the fields of the call c, at the fronts of x, y, z and w
+abbrev pub fieldsOf : Call → List ℕ → List ℕ → List ℕ → List ℕ → List (List ℕ)
+fieldsOf c x y z w = take (c .first) x ∷ take (c .second) y ∷ take (c .third) z ∷ take (c .fourth) w ∷ []
+
+-- the call c was read of the input i with the buffer b, which is b′ now, and its fields are xs
+pub record ReadCall (i : Input) (b : List ℕ) (c : Call) (b′ : List ℕ) (xs : List (List ℕ)) : Type 0 where
   pub begun : c .left .whole ≡ true → c .begun ≡ true
-  pub bytes : TookSome (CallBytes (c .byte) (c .numbers) (take (c .first) x) (take (c .second) y)) i b (c .left) b′
+  pub bytes : TookSome (CallBytes (c .byte) (c .numbers) xs) i b (c .left) b′

@@ -6,17 +6,19 @@ ghost use Prim.Native.Nat.{_+_, _<_, _≤_, _^_};
 ghost use lib.ListN.{length, take};
 ghost use Rattle.calls.specs.Inputs.{InBuffer, TookSome};
 ghost use Rattle.calls.specs.Numbers.{fourAt, eightAt};
-ghost use Rattle.calls.specs.Calls.{CountBytes, FieldBytes, HeadBytes, NumberBytes, ReadCall, row, shape};
+ghost use Rattle.calls.specs.Calls.{CountBytes, FieldBytes, HeadBytes, NumberBytes, ReadCall, fieldsOf, row, shape};
 
 pub mod input;
 
 // What follows the byte of a call: how many numbers, and how many bytes an item of each field has; 0 where the call has no such field. An item is a
-// byte or a record.
+// byte, a record or a set.
 struct Shape {
     known: bool,
     numbers: usize,
     first: usize,
     second: usize,
+    third: usize,
+    fourth: usize,
 }
 
 // Three numbers, the first of which were read.
@@ -47,18 +49,22 @@ pub struct Call {
     pub numbers: [usize; 3],
     pub first: usize,
     pub second: usize,
+    pub third: usize,
+    pub fourth: usize,
     pub left: Input,
 }
 
 // The shape of a call that there is.
-fn row(numbers: usize, first: usize, second: usize) -> Shape
-    ensures { λ r. ⌜ r ≡ row numbers first second ⌝ }
+fn row(numbers: usize, first: usize, second: usize, third: usize, fourth: usize) -> Shape
+    ensures { λ r. ⌜ r ≡ row numbers first second third fourth ⌝ }
 {
     Shape {
         known: true,
         numbers: numbers,
         first: first,
         second: second,
+        third: third,
+        fourth: fourth,
     }
 }
 
@@ -67,20 +73,23 @@ fn shape_of(byte: u8) -> Shape
     ensures { λ r. ⌜ (r ≡ shape byte) × (r .numbers ≤ 3) ⌝ }
 {
     match byte {
-        b'r' => row(0, 1, 0),
-        b'l' => row(0, 1, 1),
-        b'e' => row(1, 3, 1),
-        b'o' => row(1, 1, 1),
-        b'b' => row(2, 1, 1),
-        b'v' => row(2, 1, 1),
-        b'c' => row(1, 1, 1),
-        b'n' => row(1, 1, 1),
-        b'w' => row(1, 1, 1),
+        b'r' => row(0, 1, 0, 0, 0),
+        b'l' => row(0, 1, 1, 0, 0),
+        b'e' => row(1, 3, 1, 0, 0),
+        b'o' => row(1, 1, 1, 0, 0),
+        b'b' => row(2, 1, 1, 0, 0),
+        b'v' => row(2, 1, 1, 0, 0),
+        b'c' => row(1, 1, 1, 0, 0),
+        b'n' => row(1, 1, 1, 0, 0),
+        b'w' => row(1, 1, 1, 0, 0),
+        b'x' => row(1, 1, 1, 1, 8),
         _ => Shape {
             known: false,
             numbers: 0,
             first: 0,
             second: 0,
+            third: 0,
+            fourth: 0,
         },
     }
 }
@@ -100,7 +109,7 @@ fn four(b: &[u8], i: usize) -> usize
 }
 
 // Eight bytes as a number.
-fn eight(b: &[u8], i: usize) -> usize
+pub fn eight(b: &[u8], i: usize) -> usize
     requires { ⌜ i + 8 ≤ length (now b) ⌝ }
     ensures { λ r. ⌜ r ≡ eightAt (now (b .entry)) i ⌝ }
 {
@@ -184,9 +193,17 @@ fn read_head(buffer: &mut [u8], from: Input) -> Head
 }
 
 // Reads a call.
-pub fn read_call(buffer: &mut [u8], from: Input, first: &mut [u8], second: &mut [u8]) -> Call
+pub fn read_call(
+    buffer: &mut [u8],
+    from: Input,
+    first: &mut [u8],
+    second: &mut [u8],
+    third: &mut [u8],
+    fourth: &mut [u8],
+) -> Call
     requires { ⌜ InBuffer from (now buffer) ⌝ }
-    ensures { λ r. ⌜ ReadCall from (now (buffer .entry)) r (now (buffer .exit)) (now (first .exit)) (now (second .exit)) × (r .first ≤ length (now (first .entry))) × (r .second ≤ length (now (second .entry))) ⌝ }
+    ensures { λ r. ⌜ ReadCall from (now (buffer .entry)) r (now (buffer .exit)) (fieldsOf r (now (first .exit)) (now (second .exit)) (now (third .exit)) (now (fourth .exit))) ⌝ }
+    ensures inside { λ r. ⌜ (r .first ≤ length (now (first .entry))) × (r .second ≤ length (now (second .entry))) × (r .third ≤ length (now (third .entry))) × (r .fourth ≤ length (now (fourth .entry))) ⌝ }
 {
     let h = read_head(buffer, from);
     let s = h.shape;
@@ -194,14 +211,20 @@ pub fn read_call(buffer: &mut [u8], from: Input, first: &mut [u8], second: &mut 
     let x = read_field(buffer, a, s.first, first);
     let b = x.left;
     let y = read_field(buffer, b, s.second, second);
+    let d = y.left;
+    let z = read_field(buffer, d, s.third, third);
+    let e = z.left;
+    let w = read_field(buffer, e, s.fourth, fourth);
     let numbers = h.numbers;
-    let left = y.left;
+    let left = w.left;
     Call {
         begun: h.begun,
         byte: h.byte,
         numbers: numbers,
         first: x.n,
         second: y.n,
+        third: z.n,
+        fourth: w.n,
         left: left,
     }
 }

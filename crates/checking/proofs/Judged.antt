@@ -1,10 +1,10 @@
--- What the searches found, as the answer of the check. Assumes nothing.
+-- What the searches found, as the looks and the answer of the check. Assumes nothing.
 use mathlib.Core.Bool.{So, false}
-use mathlib.Core.List.{List}
+use mathlib.Core.List.{List, [], _∷_}
 use mathlib.Core.Path.{_∙_, _≡_, ap, ap₂, refl, sym}
 use Prim.Native.Nat.{_<_, _≤_, ℕ}
 use native.Mathlib.Omega.{arith}
-use borrow.Author.Tests.{le-ltb, lt-ltb}
+use borrow.Author.Tests.{le-ltb, lt-ltb, ltb-false}
 use lib.Dec.{ltb}
 use lib.ListN.{getD, length}
 use Rattle.sets.proofs.Members.{all-below}
@@ -23,10 +23,13 @@ use Rattle.bodies.proofs.Rules.{good-more, length-good}
 use Rattle.bodies.specs.Draws.{treeOf}
 use Rattle.groups.specs.Groups.{Candidate, Groups, Meets}
 use Rattle.bodies.specs.Nodes.{Good, badLength, mostNodes, nodes}
-use Rattle.answers.proofs.Answered.{then-nothing}
-use Rattle.answers.specs.Looks.{firstRefusal, refuseIf}
+use Rattle.answers.proofs.Answered.{first-append, pass-false, then-nothing, then-pass}
+use Rattle.answers.proofs.Good.{body-pass, count-pass}
+use Rattle.answers.specs.Inputs.{Body, Count}
+use Rattle.answers.specs.Looks.{firstRefusal, lookBytes, lookCount, lookLength, lookRules, lookTable, refuseIf}
+use Rattle.answers.specs.declared.Look.the-variants.{Pass, Refuse}
 use Rattle.answers.specs.declared.Refusal.the-variants.{Contradicted, Unforced}
-use Rattle.checking.specs.Checks.{answerOf, firstDiffers, firstUnsure, triplesLooks}
+use Rattle.checking.specs.Checks.{answerOf, candidateLooks, firstDiffers, firstUnsure, lookPC, triplesLooks}
 use Rattle.checking.proofs.Passing.{pc-first, pi-first}
 use Rattle.tables.specs.Finds.{Hit}
 use Rattle.checking.specs.declared.Answer.the-variants.{Passes, Refused}
@@ -39,26 +42,29 @@ module _ (n : ℕ) (t : List ℕ) (T : Tree) (f : So (wellFormed T)) (bd : Below
   inside : Inside (under T) (below n)
   inside x h = lt-ltb x n (bd x h)
 
+  -- the triple that was found, as the look
   pub is-contradicted : (x : Triple) → Hit n (differs (entered t) T) x → (i v : ℕ) → i ≡ placed x → v ≡ getD t (placed x) 0
-      → Refused (Contradicted (record { index = i; byte = v })) ≡ answerOf (triplesLooks n t T)
+      → Refuse (Contradicted (record { index = i; byte = v })) ≡ lookPC n t T
   unfolding firstDiffers
   is-contradicted x h i v ei ev =
       let l = index-lt (x .low) (x .mid) (x .high) n (h .low-mid) (h .mid-high) (h .high-below) in
-      ap₂ (λ (j w : ℕ). Refused (Contradicted (record { index = j; byte = w }))) ei ev ∙ sym (rw (h .is, lt-ltb (placed x) (C n 3) l) refl)
+      ap₂ (λ (j w : ℕ). Refuse (Contradicted (record { index = j; byte = w }))) ei ev ∙ sym (rw (h .is, lt-ltb (placed x) (C n 3) l) refl)
+
+  pub is-agreed : Find.firstTriple n (differs (entered t) T) ≡ C n 3 → Pass ≡ lookPC n t T
+  unfolding firstDiffers
+  is-agreed e = sym (rw (e, le-ltb (C n 3) (C n 3) (omega arith)) refl)
 
   -- nothing differs
-  module _ (none : Find.firstTriple n (differs (entered t) T) ≡ C n 3) where
+  module _ (none : lookPC n t T ≡ Pass) where
     pub agreed : PC (entered t) (below n) T
-    unfolding firstDiffers
-    agreed = pc-first n t T f inside .1 (omega (arith, none))
+    agreed = pc-first n t T f inside .1 (ltb-false (firstDiffers n t T) (C n 3) (pass-false _ _ none))
 
     pub nothing-differs : (a b c : ℕ) → So (differs (entered t) T a b c) → ⊥
     nothing-differs = pc-exactly (entered t) (entered-proper t) n (below n) (all-below n) T f inside .0 agreed
 
     -- where PC passes, PI decides
     undecided : (j : ℕ) → firstUnsure n t T ≡ j → firstRefusal (triplesLooks n t T) ≡ refuseIf (ltb j (C n 3)) (Unforced j)
-    unfolding firstDiffers
-    undecided j e = rw (none, le-ltb (C n 3) (C n 3) (omega arith), e) (then-nothing _)
+    undecided j e = rw (none, e) (then-nothing _)
 
     at-last : (j : ℕ) → firstUnsure n t T ≡ j → C n 3 ≤ j → Passes ≡ answerOf (triplesLooks n t T)
     at-last j e l = sym (rw (undecided j e, le-ltb j (C n 3) l) refl)
@@ -77,7 +83,14 @@ module _ (n : ℕ) (t : List ℕ) (T : Tree) (f : So (wellFormed T)) (bd : Below
     is-earned er = at-last (firstUnsure n t T) refl
         (pi-first n t T f inside agreed .0 (earned-exactly (entered t) (entered-proper t) n (below n) (all-below n) T f inside agreed .1 er))
 
--- ---- what is known of a good body
+-- ---- what is known of a good body, and that the looks pass no other
+
+pub candidate-pass : (n : ℕ) (t b : List ℕ) → firstRefusal (candidateLooks n t b) ≡ Pass → Count n × Body n b
+candidate-pass n t b e =
+    let table = lookCount n ∷ lookTable n (length t) ∷ lookBytes t ∷ [] in
+    let tree = lookLength 0 (length b) ∷ lookRules 0 n b ∷ [] in
+    let p = then-pass (firstRefusal table) (firstRefusal tree) .0 (sym (first-append table tree) ∙ e) in
+    (count-pass n .0 (then-pass (lookCount n) _ .0 (p .0) .0), body-pass 0 n b .0 (p .1))
 
 module _ (n : ℕ) (b : List ℕ) (small : n ≤ 64) (g : Good n (nodes b)) (l : badLength (length b) ≡ false) where
   pub good-64 : Good 64 (nodes b)

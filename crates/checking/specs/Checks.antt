@@ -37,8 +37,11 @@ module _ (n : ℕ) (t : List ℕ) where
   triplesLooks T = lookPC T ∷ lookPI T ∷ []
 
   -- "Check: 2, 7, 8, 5, 6, 11, 12", for the body b; "The tree number is 0 where there is only one body"
+  abbrev pub candidateLooks : List ℕ → List Look
+  candidateLooks b = lookCount n ∷ lookTable n (length t) ∷ lookBytes t ∷ lookLength 0 (length b) ∷ lookRules 0 n b ∷ []
+
   abbrev pub checkLooks : List ℕ → List Look
-  checkLooks b = (lookCount n ∷ lookTable n (length t) ∷ lookBytes t ∷ lookLength 0 (length b) ∷ lookRules 0 n b ∷ []) ++ triplesLooks (treeOf b)
+  checkLooks b = candidateLooks b ++ triplesLooks (treeOf b)
 
 abbrev pub answerOf : List Look → Answer
 answerOf l = answered (λ (a : Answer). a) Refused (firstRefusal l) Passes

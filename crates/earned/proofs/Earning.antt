@@ -6,13 +6,15 @@ use mathlib.Core.Logic.{_↔_, _≢_}
 use mathlib.Core.Path.{_∙_, _≡_, ap, refl, subst, sym}
 use Prim.Native.Nat.{_<_, ℕ}
 use native.Mathlib.Omega.{arith}
-use borrow.Author.Tests.{eqb-true}
+use borrow.Author.Tests.{eq-eqb, eqb-true}
+use lib.Dec.{eqb}
 use lib.ListN.{getD, length}
+use Rattle.sets.proofs.Bools.{by-order}
 use Rattle.sets.proofs.Tests.{has-empty, number-is}
 use Rattle.sets.specs.Sets.{has}
 use Rattle.sets.specs.Species.{Species, either}
 use Rattle.trees.proofs.Lowest.{some-species}
-use Rattle.trees.specs.Check.{Earned, Joins}
+use Rattle.trees.specs.Check.{Earned, JoinedBeside, Joins}
 use Rattle.trees.specs.Trees.{Tree, leaf, under}
 use Rattle.trees.specs.Triplets.{Triplets}
 use Rattle.bodies.proofs.Drawn.{subtree-below, subtree-formed}
@@ -21,7 +23,7 @@ use Rattle.bodies.proofs.Under.{subtree-leaf}
 use Rattle.bodies.specs.Draws.{subtree}
 use Rattle.groups.specs.Groups.{Groups}
 use Rattle.bodies.specs.Nodes.{Good, Nodes, children, none}
-use Rattle.earned.specs.Siblings.{Beside, JoinedBeside}
+use Rattle.earned.specs.Siblings.{Beside, FirstUnearnedNode}
 
 -- one species is always joined
 one-joins : (E : Triplets) (S : Species) (x : ℕ) → Joins E S (under (leaf x))
@@ -57,7 +59,7 @@ module _ (v : Nodes) (g : Good 64 v) where
       go [] e = subst (λ (t : Tree). JoinedBeside E t (subtree v j)) (sym (subtree-leaf 64 v g i h e)) (one-joins E _ (v .species i))
       go (c ∷ l) e = absurd (ne (g .inner i h (omega (arith, ap length e))))
 
-  pub earned-nodes : (E : Triplets) → 0 < v .count → Earned E (subtree v 0) ↔ ((i : ℕ) → 0 < i → i < v .count → (j : ℕ) → Beside E v i j)
+  earned-nodes : (E : Triplets) → 0 < v .count → Earned E (subtree v 0) ↔ ((i : ℕ) → 0 < i → i < v .count → (j : ℕ) → Beside E v i j)
   earned-nodes E h = (
     λ er i p q j p′ q′ ne e. er (subtree v i) (subtree v j)
         (pair-siblings 64 v g (v .parent i) i j (record { later = p; within = q; parent = refl }) (record { later = p′; within = q′; parent = e }) (λ z. ne (sym z))),
@@ -66,4 +68,14 @@ module _ (v : Nodes) (g : Good 64 v) where
         let k = b (r .one) (r .one-child .later) (r .one-child .within) (r .other)
         (r .other-child .later) (r .other-child .within) (r .two) (r .other-child .parent ∙ sym (r .one-child .parent)) in
         subst (λ (t : Tree). JoinedBeside E t s′) (sym (r .one-draws)) (subst (λ (t : Tree). JoinedBeside E (subtree v (r .one)) t) (sym (r .other-draws)) k),
+  )
+
+  -- there is no first node whose group is not earned exactly when each is
+  pub first-earned : (E : Triplets) → 0 < v .count → (r : ℕ) → FirstUnearnedNode E v r → (eqb r 0 ≡ true) ↔ Earned E (subtree v 0)
+  first-earned E h r f = (
+    λ e. earned-nodes E h .1 (λ i p q. f .before i p q (λ z. absurd (omega (arith, eqb-true r 0 e)))),
+    λ er. by-order r 0
+        (λ l. absurd (omega arith))
+        (λ e. eq-eqb r 0 e)
+        (λ p. let a = f .apart p in absurd (a .split (earned-nodes E h .0 er r p (f .within) (a .sibling) (a .later) (a .within) (a .other) (a .parent)))),
   )

@@ -12,6 +12,7 @@ ghost use Rattle.building.specs.Vetoes.{vetoAnswer, vetoAfter};
 ghost use Rattle.parsing.specs.Parses.{parseAnswer, parseAfter, parseTold};
 ghost use Rattle.rendering.specs.Renders.{renderAnswer, renderAfter, renderTold};
 ghost use Rattle.checking.specs.Checks.{checkAnswer, checkTold};
+ghost use Rattle.loosening.specs.Loosens.{lent, loosenAnswer, loosenAfter, loosenTold};
 ghost use Rattle.replies.specs.Replied.{replied};
 ghost use Rattle.tables.specs.Named.{named};
 ghost use Rattle.exports.specs.Codes.{faultCode, laid, Lays, Handed, tripleAnswer, tripleSpecies};
@@ -197,6 +198,24 @@ pub extern "C" fn koodhaxil_render(
 {
     let a = rendering::render(n, body, room);
     lay(replies::render(a), values)
+}
+
+// Loosens the tree of a body by the table t: the final tree to the front of the room, and the dropped sets to the front of the list. A refusal leaves both as
+// they were.
+#[no_mangle]
+pub extern "C" fn koodhaxil_loosen(
+    n: usize,
+    t: &[u8],
+    body: &[u8],
+    room: &mut [u8],
+    list: &mut [u64],
+    values: &mut [usize],
+) -> usize
+    ensures { λ r. ⌜ Handed (loosenTold (loosenAnswer n (now (t .entry)) (now (body .entry)) (length (now (room .entry))) (length (now (list .entry))))) (now (values .entry)) r (now (values .exit)) ⌝ }
+    ensures { λ _. ⌜ lent (now (room .exit)) (now (list .exit)) ≡ loosenAfter n (now (t .entry)) (now (body .entry)) (lent (now (room .entry)) (now (list .entry))) ⌝ }
+{
+    let a = loosening::loosen(n, t, body, room, list);
+    lay(replies::loosen(a), values)
 }
 
 // Is there a triple with this index? It is a question, so that its answer is none of document 01's numbers: 1 for yes, with the three species laid into

@@ -29,10 +29,15 @@ text-as e = ap (λ (x : Reply). plainText (replied x)) (sym e)
 
 -- ---- the whole line
 
-pub barred-whole : (s l : List ℕ) → ((s ++ (32 ∷ 124 ∷ [])) ++ spaced l) ++ (10 ∷ []) ≡ ended (s ++ barred l)
-barred-whole s l = ap ended (append-assoc s (32 ∷ 124 ∷ []) (spaced l))
+-- a bar, and then the numbers
+pub bar-behind : (s l : List ℕ) → (s ++ (32 ∷ 124 ∷ [])) ++ spaced l ≡ s ++ barred l
+bar-behind s l = append-assoc s (32 ∷ 124 ∷ []) (spaced l)
 
--- p is the reply to the answer r, which is a; the lent bytes are o′
+-- a room, and then a list of sets
+pub both-behind : (s l d : List ℕ) → ((s ++ barred l) ++ (32 ∷ 124 ∷ [])) ++ spaced d ≡ s ++ (barred l ++ barred d)
+both-behind s l d = bar-behind (s ++ barred l) d ∙ append-assoc s (barred l) (barred d)
+
+-- p is the reply to the answer r, which is a; what is lent is o′
 module _ {A : Type 0} (tell : A → Told) {r a : A} {p : Plain} where
   reply-text : p ≡ plain (tell r) → r ≡ a → plainText p ≡ toldText (tell a)
   reply-text e q = ap plainText e ∙ ap (λ (x : A). toldText (tell x)) q
@@ -40,6 +45,10 @@ module _ {A : Type 0} (tell : A → Told) {r a : A} {p : Plain} where
   pub bare-line : p ≡ plain (tell r) → r ≡ a → ended (plainText p) ≡ ended (toldText (tell a))
   bare-line e q = ap ended (reply-text e q)
 
+  -- behind it stands the text of what is lent
+  pub lent-line : {L : Type 0} (text : L → List ℕ) {o o′ : L} → p ≡ plain (tell r) → r ≡ a → o′ ≡ o → ended (plainText p ++ text o′) ≡ ended (toldText (tell a) ++ text o)
+  lent-line {L} text {o} {o′} e q h =
+      ap (λ (w : List ℕ). ended (w ++ text o′)) (reply-text e q) ∙ ap (λ (l : L). ended (toldText (tell a) ++ text l)) h
+
   pub barred-line : {o o′ : List ℕ} → p ≡ plain (tell r) → r ≡ a → o′ ≡ o → ended (plainText p ++ barred o′) ≡ ended (toldText (tell a) ++ barred o)
-  barred-line {o} {o′} e q h =
-      ap (λ (w : List ℕ). ended (w ++ barred o′)) (reply-text e q) ∙ ap (λ (l : List ℕ). ended (toldText (tell a) ++ barred l)) h
+  barred-line = lent-line barred

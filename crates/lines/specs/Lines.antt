@@ -1,5 +1,5 @@
 -- The line of a call: document 01's number, then what its table lists with it, each after a space; where a table or a room was lent, also after a
--- refusal, a space, a bar, and its bytes as they are afterwards, each after a space. A line ends with byte 10. (The form is ours: `second/README.md`.)
+-- refusal, a space, a bar, and its bytes as they are afterwards, each after a space; so a list of sets, each as its number. A line ends with byte 10. (The form is ours: `second/README.md`.)
 use mathlib.Core.List.{List, [], _∷_, _++_}
 use Prim.Native.Nat.{ℕ}
 use lib.ListN.{length}
@@ -15,6 +15,7 @@ use Rattle.building.specs.Vetoes.{vetoAnswer, vetoAfter}
 use Rattle.parsing.specs.Parses.{parseAfter, parseAnswer, parseTold}
 use Rattle.rendering.specs.Renders.{renderAfter, renderAnswer, renderTold}
 use Rattle.checking.specs.Checks.{checkAnswer, checkTold}
+use Rattle.loosening.specs.Loosens.{Lent, lent, loosenAfter, loosenAnswer, loosenTold}
 use Rattle.replies.specs.Plain.{Item, plain-number, broken-rule, Plain, plain}
 use Rattle.writing.specs.Texts.{decimal, spaced, ended}
 
@@ -54,11 +55,15 @@ plainText p = decimal (p .number) ++ itemsText (p .items)
 abbrev pub toldText : Told → List ℕ
 toldText t = plainText (plain t)
 
--- a space, a bar, and each byte after a space
+-- a space, a bar, and each byte, or each set, after a space
 abbrev pub barred : List ℕ → List ℕ
 barred l = 32 ∷ 124 ∷ spaced l
 
--- ---- the lines: b is a collection, t a table, s a set, w a text and o a room as they are before the call
+-- a room, and then a list of sets
+abbrev pub lentText : Lent → List ℕ
+lentText o = barred (o .room) ++ barred (o .list)
+
+-- ---- the lines: b is a collection, t a table, s a set, w a text, o a room and l a list of sets as they are before the call
 
 unfoldable pub readLine : List ℕ → List ℕ
 readLine b = ended (toldText (readTold (readAnswer b)))
@@ -86,3 +91,6 @@ renderLine n body o = ended (toldText (renderTold (renderAnswer n body (length o
 
 unfoldable pub checkLine : ℕ → List ℕ → List ℕ → List ℕ
 checkLine n t body = ended (toldText (checkTold (checkAnswer n t body)))
+
+unfoldable pub loosenLine : ℕ → List ℕ → List ℕ → List ℕ → List ℕ → List ℕ
+loosenLine n t body o l = ended (toldText (loosenTold (loosenAnswer n t body (length o) (length l))) ++ lentText (loosenAfter n t body (lent o l)))

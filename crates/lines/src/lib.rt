@@ -1,4 +1,4 @@
-// The line of each call: an operation is called, and what it answers is written as text, with what it left in the lent table or room.
+// The line of each call: an operation is called, and what it answers is written as text, with what it left in the lent table, room or list.
 ghost use mathlib.Core.Path.{_≡_};
 ghost use mathlib.Core.List.{_++_};
 ghost use Prim.Native.Nat.{_+_, _*_, _≤_};
@@ -12,10 +12,11 @@ ghost use Rattle.building.specs.Builds.{buildAfter};
 ghost use Rattle.building.specs.Vetoes.{vetoAfter};
 ghost use Rattle.parsing.specs.Parses.{parseAfter};
 ghost use Rattle.rendering.specs.Renders.{renderAfter};
+ghost use Rattle.loosening.specs.Loosens.{lent, loosenAfter};
 ghost use Rattle.replies.specs.Replied.{replied};
 ghost use Rattle.writing.specs.Texts.{ended};
 ghost use Rattle.writing.specs.Writes.{Writes};
-ghost use Rattle.lines.specs.Lines.{faultText, plainText, toldText, barred, readLine, listLine, enterLine, orderLine, buildLine, vetoLine, parseLine, renderLine, checkLine};
+ghost use Rattle.lines.specs.Lines.{faultText, plainText, toldText, barred, lentText, readLine, listLine, enterLine, orderLine, buildLine, vetoLine, parseLine, renderLine, checkLine, loosenLine};
 
 // Writes which rule is broken.
 fn put_fault(out: &mut [u8], at: usize, f: bodies::Fault) -> usize
@@ -86,14 +87,34 @@ fn put_line(out: &mut [u8], at: usize, s: replies::Reply) -> usize
     writing::put(out, a, b'\n')
 }
 
+// Writes an answer, and the bytes of a table or a room behind it.
+fn put_lent(out: &mut [u8], at: usize, s: replies::Reply, l: &[u8]) -> usize
+    requires { ⌜ at + 4 * length (now l) + 93 ≤ length (now out) ⌝ }
+    ensures { λ r. ⌜ Writes (now (out .entry)) at (plainText (replied s) ++ barred (now (l .entry))) (now (out .exit)) r ⌝ }
+    ensures few { λ r. ⌜ r ≤ at + 4 * length (now (l .entry)) + 93 ⌝ }
+{
+    let a = put_reply(out, at, s);
+    let b = writing::put_word(out, a, b" |");
+    writing::put_bytes(out, b, l)
+}
+
 // Writes a line with the bytes of a table or a room behind the answer.
 fn put_barred(out: &mut [u8], at: usize, s: replies::Reply, l: &[u8]) -> usize
     requires { ⌜ at + 4 * length (now l) + 94 ≤ length (now out) ⌝ }
     ensures { λ r. ⌜ Writes (now (out .entry)) at (ended (plainText (replied s) ++ barred (now (l .entry)))) (now (out .exit)) r ⌝ }
 {
-    let a = put_reply(out, at, s);
-    let b = writing::put_word(out, a, b" |");
-    let c = writing::put_bytes(out, b, l);
+    let a = put_lent(out, at, s, l);
+    writing::put(out, a, b'\n')
+}
+
+// Writes a line with the bytes of a room and then the sets of a list behind the answer.
+fn put_both(out: &mut [u8], at: usize, s: replies::Reply, l: &[u8], sets: &[u64]) -> usize
+    requires { ⌜ at + 4 * length (now l) + 21 * length (now sets) + 96 ≤ length (now out) ⌝ }
+    ensures { λ r. ⌜ Writes (now (out .entry)) at (ended (plainText (replied s) ++ lentText (lent (now (l .entry)) (now (sets .entry))))) (now (out .exit)) r ⌝ }
+{
+    let end = put_lent(out, at, s, l);
+    let b = writing::put_word(out, end, b" |");
+    let c = writing::put_sets(out, b, sets);
     writing::put(out, c, b'\n')
 }
 
@@ -181,4 +202,22 @@ pub fn check_line(out: &mut [u8], at: usize, n: usize, t: &[u8], body: &[u8]) ->
     ensures { λ r. ⌜ Writes (now (out .entry)) at (checkLine n (now (t .entry)) (now (body .entry))) (now (out .exit)) r ⌝ }
 {
     put_line(out, at, replies::check(checking::check(n, t, body)))
+}
+
+// Loosens a tree by the table t, and writes the line of the call.
+pub fn loosen_line(
+    out: &mut [u8],
+    at: usize,
+    n: usize,
+    t: &[u8],
+    body: &[u8],
+    room: &mut [u8],
+    list: &mut [u64],
+) -> usize
+    requires { ⌜ at + 4 * length (now room) + 21 * length (now list) + 100 ≤ length (now out) ⌝ }
+    ensures { λ r. ⌜ Writes (now (out .entry)) at (loosenLine n (now (t .entry)) (now (body .entry)) (now (room .entry)) (now (list .entry))) (now (out .exit)) r ⌝ }
+    ensures { λ _. ⌜ lent (now (room .exit)) (now (list .exit)) ≡ loosenAfter n (now (t .entry)) (now (body .entry)) (lent (now (room .entry)) (now (list .entry))) ⌝ }
+{
+    let a = loosening::loosen(n, t, body, room, list);
+    put_both(out, at, replies::loosen(a), room, list)
 }

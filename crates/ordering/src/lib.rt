@@ -7,7 +7,7 @@ ghost use lib.ListN.{length};
 ghost use lib.Seq.{sets};
 ghost use Rattle.trees.specs.Trees.{house};
 ghost use Rattle.bodies.specs.Nodes.{nodes, width, mostNodes, bodyLength, Good, none};
-ghost use Rattle.bodies.specs.Draws.{subtree, nodeCount, bytes};
+ghost use Rattle.bodies.specs.Draws.{subtree, nodeCount, bytes, ordered, written};
 ghost use Rattle.groups.specs.Groups.{Groups};
 ghost use Rattle.ordering.specs.Orders.{Orders};
 
@@ -52,6 +52,19 @@ fn put(
     next
 }
 
+// Writes the tree of a good body in house order to the front of the room. Returns the node count.
+pub fn arrange(body: &[u8], room: &mut [u8]) -> usize
+    requires { ⌜ Good 64 (nodes (now body)) ⌝ }
+    requires { ⌜ (0 < nodes (now body) .count) × (nodes (now body) .count ≤ mostNodes) ⌝ }
+    requires { ⌜ bodyLength (nodes (now body) .count) ≤ length (now room) ⌝ }
+    ensures { λ r. ⌜ r ≡ nodes (now (body .entry)) .count ⌝ }
+    ensures { λ _. ⌜ now (room .exit) ≡ written (now (room .entry)) (ordered (now (body .entry))) ⌝ }
+{
+    let mut groups = [0; bodies::MOST_NODES];
+    groups::groups(body, &mut groups);
+    put(body, &groups, 0, bodies::NONE, 0, room)
+}
+
 // Writes a tree with n species at most in house order to the front of the room. A refusal leaves every byte as it was.
 pub fn order(n: usize, body: &[u8], room: &mut [u8]) -> Answer
     ensures { λ r. ⌜ Orders n (now (body .entry)) (now (room .entry)) r (now (room .exit)) ⌝ }
@@ -66,8 +79,6 @@ pub fn order(n: usize, body: &[u8], room: &mut [u8]) -> Answer
     if room.len() < body.len() {
         return Answer::Refused(answers::Refusal::ShortRoom);
     }
-    let mut groups = [0; bodies::MOST_NODES];
-    groups::groups(body, &mut groups);
-    let count = put(body, &groups, 0, bodies::NONE, 0, room);
+    let count = arrange(body, room);
     Answer::Done(answers::Written { nodes: count })
 }

@@ -5,19 +5,22 @@ use mathlib.Core.Logic.{Iff·trans, _≢_, _↔_, _⊎_, inl, inr, ⊎-elim}
 use mathlib.Core.Path.{_∙_, _≡_, ap, refl, subst, sym}
 use Prim.Native.Nat.{_<_, _≤_, ℕ}
 use native.Mathlib.Omega.{arith}
-use borrow.Author.Tests.{le-ltb, ltb-false}
+use borrow.Author.Tests.{le-ltb, lt-ltb, ltb-false, ltb-true}
 use lib.Dec.{eqb, ltb}
 use lib.ListN.{getD, length}
 use Rattle.trees.proofs.Triplets.{different-e, different-i}
 use Rattle.sets.specs.Sets.{size}
-use Rattle.tables.specs.Bytes.{over, wrongByte, wrongLength}
+use Rattle.sets.specs.Species.{below}
+use Rattle.tables.specs.Bytes.{entered, over, wrongByte, wrongLength}
 use Rattle.tables.specs.Index.{C}
+use Rattle.bodies.proofs.Drawn.{tree-below, tree-formed}
+use Rattle.bodies.proofs.Rules.{length-good}
 use Rattle.bodies.specs.Draws.{treeOf}
 use Rattle.bodies.specs.Faults.{fault}
 use Rattle.bodies.specs.Nodes.{Good, badLength, nodes, roomFor}
 use Rattle.bodies.specs.declared.Verdict.{Verdict}
 use Rattle.bodies.specs.declared.Verdict.the-variants.{Breaks, Fine}
-use Rattle.answers.proofs.Answered.{Each, first-among, first-on, first-stop, number-zero, pass-both, pass-false, pass-one, refuse-one}
+use Rattle.answers.proofs.Answered.{Each, first-among, first-append, first-on, first-stop, number-zero, pass-both, pass-false, pass-one, refuse-one, then-pass}
 use Rattle.answers.proofs.Good.{body-pass, count-pass, length-pass, room-pass, rules-pass, table-pass}
 use Rattle.answers.specs.Answers.{Told, Value}
 use Rattle.answers.specs.Inputs.{Body, Count, Table}
@@ -39,8 +42,11 @@ use Rattle.ordering.specs.Orders.{orderLooks}
 use Rattle.building.proofs.Chosen.{outside-pass, set-pass}
 use Rattle.building.specs.Builds.{inputLooks, lookOutcome, outcome}
 use Rattle.building.specs.GoodSet.{badSet, firstOutside, lookOutside, lookSet}
-use Rattle.checking.specs.Checks.{firstDiffers, firstUnsure, triplesLooks}
+use Rattle.checking.proofs.Passing.{pc-first}
+use Rattle.checking.specs.Checks.{candidateLooks, firstDiffers, firstUnsure, lookPC, triplesLooks}
+use Rattle.loosening.specs.Loosens.{loosenLooks}
 use Rattle.trees.specs.Build.{Outcome, stop, tree}
+use Rattle.trees.specs.Check.{PC}
 use Rattle.trees.specs.Trees.{Tree}
 use Rattle.newick.specs.Texts.{Readable}
 use Rattle.parsing.proofs.Texts.{text-body, text-pass, textLooks}
@@ -51,7 +57,7 @@ use Rattle.promises.specs.Operations.{Operations}
 use Rattle.promises.specs.Demand1.{Demand1}
 use Rattle.promises.specs.Together.{RefusesBadAlone}
 use Rattle.promises.specs.Veto.{NeverTen}
-use Rattle.promises.specs.Inputs.{Buildable, Checkable, Enterable, Listable, Orderable, Parsable, Renderable, Triplet}
+use Rattle.promises.specs.Inputs.{Buildable, Checkable, Enterable, Listable, Loosenable, Orderable, Parsable, Renderable, Triplet}
 
 -- every look of l passes exactly where P is so
 abbrev Passed : List Look → Type 0 → Type 0
@@ -148,13 +154,43 @@ pub render-pass : (n : ℕ) (b o : List ℕ) → Passed (renderLooks n b (length
 render-pass n b o = recorded (counted n then (bodied n b then roomed (length (newickText b)) (length o)))
     (λ p. record { count = p .0; body = p .1 .0; room = p .1 .1 }) (λ g. (g .count, (g .body, g .room)))
 
--- 2, 7, 8, 5, 6 of the check
-abbrev pub bothLooks : ℕ → List ℕ → List ℕ → List Look
-bothLooks n t b = lookCount n ∷ lookTable n (length t) ∷ lookBytes t ∷ lookLength 0 (length b) ∷ lookRules 0 n b ∷ []
-
-pub check-pass : (n : ℕ) (t b : List ℕ) → Passed (bothLooks n t b) (Checkable n t b)
+-- 2, 7, 8, 5, 6 of the check, and of loosening
+pub check-pass : (n : ℕ) (t b : List ℕ) → Passed (candidateLooks n t b) (Checkable n t b)
 check-pass n t b = recorded (counted n then (tabled n t then bodied n b))
     (λ p. record { count = p .0; table = p .1 .0; body = p .1 .1 }) (λ g. (g .count, (g .table, g .body)))
+
+-- 11: where the input is good, this look passes exactly where the table does not contradict the tree
+module _ (n : ℕ) (t b : List ℕ) (g : Checkable n t b) where
+  pc-none : PC (entered t) (below n) (treeOf b) ↔ (C n 3 ≤ firstDiffers n t (treeOf b))
+  pc-none =
+      let some = length-good b (g .body .long) .0 in
+      pc-first n t (treeOf b) (tree-formed n (nodes b) (g .body .good) some) (λ x h. lt-ltb x n (tree-below n (nodes b) (g .body .good) some x h))
+
+  pub pc-pass : (lookPC n t (treeOf b) ≡ Pass) ↔ PC (entered t) (below n) (treeOf b)
+  pc-pass = (
+    (λ e. pc-none .1 (ltb-false (firstDiffers n t (treeOf b)) (C n 3) (pass-false (ltb (firstDiffers n t (treeOf b)) (C n 3)) _ e))),
+    λ pc. rw (le-ltb (firstDiffers n t (treeOf b)) (C n 3) (pc-none .0 pc)) refl,
+  )
+
+-- looks m behind l, of which it is known what they say where all of l pass
+pub then-known : (l m : List Look) {P Q : Type 0} → Passed l P → (P → Passed m Q) → Passed (l ++ m) (P × Q)
+then-known l m p q =
+    let r = then-pass (firstRefusal l) (firstRefusal m) in (
+      (λ e. let k = r .0 (sym (first-append l m) ∙ e) in let h = p .0 (k .0) in (h, q h .0 (k .1))),
+      λ x. first-append l m ∙ r .1 (p .1 (x .0), q (x .0) .1 (x .1)),
+    )
+
+-- 11, then 9 for the room and for the list
+abbrev lentLooks : ℕ → List ℕ → List ℕ → ℕ → ℕ → List Look
+lentLooks n t b l k = lookPC n t (treeOf b) ∷ lookRoom (length b) l ∷ lookRoom 62 k ∷ []
+
+pub loosen-pass : (n : ℕ) (t b o d : List ℕ) → Passed (loosenLooks n t b (length o) (length d)) (Loosenable n t b o d × PC (entered t) (below n) (treeOf b))
+loosen-pass n t b o d = Iff·trans
+    (then-known (candidateLooks n t b) (lentLooks n t b (length o) (length d)) (check-pass n t b)
+    (λ g. (one-look (lookPC n t (treeOf b)) (pc-pass n t b g) then (roomed (length b) (length o) then roomed 62 (length d))) .so)) (
+      (λ p. let g = p .0 in (record { count = g .count; table = g .table; body = g .body; tree-room = p .1 .1 .0; list = p .1 .1 .1 }, p .1 .0)),
+      λ p. let g = p .0 in (record { count = g .count; table = g .table; body = g .body }, (p .1, (g .tree-room, g .list))),
+    )
 
 -- ---- 10, 11 and 12 speak of the outcome; every other refusal speaks of the input
 
@@ -186,7 +222,7 @@ build-input n u t l = (
   ),
 )
 
-check-input : (n : ℕ) (t b : List ℕ) → Each Input (bothLooks n t b)
+check-input : (n : ℕ) (t b : List ℕ) → Each Input (candidateLooks n t b)
 check-input n t b = (
   one (wrongCount n) BadCounts refl,
   (
@@ -241,19 +277,50 @@ eleven true q x j = inr (inl refl)
 eleven false true x j = inr (inr refl)
 eleven false false x j = inl refl
 
+-- behind 11 there is 9 alone
+no-eleven : (p q : Bool) (vs : List Value) → lookTold (firstRefusal (refuseIf p ShortRoom ∷ refuseIf q ShortRoom ∷ [])) vs .number ≢ 11
+no-eleven true q vs e = omega arith
+no-eleven false true vs e = omega arith
+no-eleven false false vs e = omega arith
+
+loosen-eleven : (n : ℕ) (t b : List ℕ) (l k : ℕ) (vs : List Value) → (lookTold (firstRefusal (loosenLooks n t b l k)) vs .number ≡ 11) ↔ (Checkable n t b × (PC (entered t) (below n) (treeOf b) → ⊥))
+loosen-eleven n t b l k vs = ((λ z. go (firstRefusal (candidateLooks n t b)) refl z), λ p. back (p .0) (p .1))
+  where
+    tail : Checkable n t b → (c : Bool) → ltb (firstDiffers n t (treeOf b)) (C n 3) ≡ c → (x : Contradiction)
+        → lookTold (firstRefusal (refuseIf c (Contradicted x) ∷ lookRoom (length b) l ∷ lookRoom 62 k ∷ [])) vs .number ≡ 11 → PC (entered t) (below n) (treeOf b) → ⊥
+    tail g true e x z pc = let i = ltb-true (firstDiffers n t (treeOf b)) (C n 3) e in omega (arith, i, pc-none n t b g .0 pc)
+    tail g false e x z pc = no-eleven (ltb l (length b)) (ltb k 62) vs z
+
+    go : (a : Look) → firstRefusal (candidateLooks n t b) ≡ a → lookTold (firstRefusal (loosenLooks n t b l k)) vs .number ≡ 11 → Checkable n t b × (PC (entered t) (below n) (treeOf b) → ⊥)
+    go Pass e z =
+        let g = check-pass n t b .0 e in
+        (g, tail g (ltb (firstDiffers n t (treeOf b)) (C n 3)) refl _ (sym (ap (λ (a : Look). lookTold a vs .number) (first-on (candidateLooks n t b) (lentLooks n t b l k) e)) ∙ z))
+    go (Refuse x) e z = absurd (not-input 11 refl (refusalTold x .number) (first-among Input (candidateLooks n t b) (check-input n t b) x e)
+        (sym (ap (λ (a : Look). lookTold a vs .number) (first-stop (candidateLooks n t b) (lentLooks n t b l k) x e)) ∙ z))
+
+    back : Checkable n t b → (PC (entered t) (below n) (treeOf b) → ⊥) → lookTold (firstRefusal (loosenLooks n t b l k)) vs .number ≡ 11
+    back g fails = ap (λ (a : Look). lookTold a vs .number) (first-on (candidateLooks n t b) (lentLooks n t b l k) (check-pass n t b .1 g)) ∙ last (ltb (firstDiffers n t (treeOf b)) (C n 3)) refl _
+      where
+        last : (c : Bool) → ltb (firstDiffers n t (treeOf b)) (C n 3) ≡ c → (x : Contradiction)
+            → lookTold (firstRefusal (refuseIf c (Contradicted x) ∷ lookRoom (length b) l ∷ lookRoom 62 k ∷ [])) vs .number ≡ 11
+        last true e x = refl
+        last false e x = absurd (fails (pc-none n t b g .1 (ltb-false (firstDiffers n t (treeOf b)) (C n 3) e)))
+
 pub accepts : RefusesBadAlone
-accepts L d = record {
-  reading = λ b. zero-good (L .read b) (firstRefusal (readLooks b)) _ (d .reading b) (read-pass b);
-  listing = λ b t. zero-good (L .list b t .told) (firstRefusal (listLooks b (length t))) _ (d .listing b t .told-is) (list-pass b t);
-  entering = λ n rs t. zero-good (L .enter n rs t .told) (firstRefusal (enterLooks n rs (length t))) _ (d .entering n rs t .told-is) (enter-pass n rs t);
-  ordering = λ n b o. zero-good (L .order n b o .told) (firstRefusal (orderLooks n b (length o))) _ (d .ordering n b o .told-is) (order-pass n b o);
+accepts L keeps = record {
+  reading = λ b. zero-good (L .read b) (firstRefusal (readLooks b)) _ (keeps .reading b) (read-pass b);
+  listing = λ b t. zero-good (L .list b t .told) (firstRefusal (listLooks b (length t))) _ (keeps .listing b t .told-is) (list-pass b t);
+  entering = λ n rs t. zero-good (L .enter n rs t .told) (firstRefusal (enterLooks n rs (length t))) _ (keeps .entering n rs t .told-is) (enter-pass n rs t);
+  ordering = λ n b o. zero-good (L .order n b o .told) (firstRefusal (orderLooks n b (length o))) _ (keeps .ordering n b o .told-is) (order-pass n b o);
   building = λ n u t o. input-good (inputLooks n u t (length o)) (lookOutcome (outcome n u t) ∷ []) _ (build-input n u t (length o)) Ten
-      (λ k q s. ⊎-elim (λ z. z) (λ z. absurd (not-input 10 refl k s z)) q) (ten (outcome n u t) _) (L .build n u t o .told) (d .building n u t o .told-is) (build-pass n u t o);
-  vetoing = λ n u t o. zero-good (L .veto n u t o .told) (firstRefusal (inputLooks n u t (length o))) _ (d .vetoing n u t o .told-is) (build-pass n u t o);
-  checking = λ n t b. input-good (bothLooks n t b) (triplesLooks n t (treeOf b)) [] (check-input n t b) Eleven
-      (λ k q s. ⊎-elim (λ z. z) (⊎-elim (λ z. absurd (not-input 11 refl k s z)) (λ z. absurd (not-input 12 refl k s z))) q) (eleven (ltb (firstDiffers n t (treeOf b)) (C n 3)) (ltb (firstUnsure n t (treeOf b)) (C n 3)) _ _) (L .check n t b) (d .checking n t b) (check-pass n t b);
-  parsing = λ n w o. zero-good (L .parse n w o .told) (firstRefusal (parseLooks n w (length o))) _ (d .parsing n w o .told-is) (parse-pass n w o);
-  rendering = λ n b o. zero-good (L .render n b o .told) (firstRefusal (renderLooks n b (length o))) _ (d .rendering n b o .told-is) (render-pass n b o);
+      (λ k q s. ⊎-elim (λ z. z) (λ z. absurd (not-input 10 refl k s z)) q) (ten (outcome n u t) _) (L .build n u t o .told) (keeps .building n u t o .told-is) (build-pass n u t o);
+  vetoing = λ n u t o. zero-good (L .veto n u t o .told) (firstRefusal (inputLooks n u t (length o))) _ (keeps .vetoing n u t o .told-is) (build-pass n u t o);
+  checking = λ n t b. input-good (candidateLooks n t b) (triplesLooks n t (treeOf b)) [] (check-input n t b) Eleven
+      (λ k q s. ⊎-elim (λ z. z) (⊎-elim (λ z. absurd (not-input 11 refl k s z)) (λ z. absurd (not-input 12 refl k s z))) q) (eleven (ltb (firstDiffers n t (treeOf b)) (C n 3)) (ltb (firstUnsure n t (treeOf b)) (C n 3)) _ _) (L .check n t b) (keeps .checking n t b) (check-pass n t b);
+  loosening = λ n t b o d. zero-good (L .loosen n t b o d .told) (firstRefusal (loosenLooks n t b (length o) (length d))) _ (keeps .loosening n t b o d .told-is) (loosen-pass n t b o d);
+  loosening-11 = λ n t b o d. subst (λ (r : Told). (r .number ≡ 11) ↔ (Checkable n t b × (PC (entered t) (below n) (treeOf b) → ⊥))) (sym (keeps .loosening n t b o d .told-is)) (loosen-eleven n t b (length o) (length d) _);
+  parsing = λ n w o. zero-good (L .parse n w o .told) (firstRefusal (parseLooks n w (length o))) _ (keeps .parsing n w o .told-is) (parse-pass n w o);
+  rendering = λ n b o. zero-good (L .render n b o .told) (firstRefusal (renderLooks n b (length o))) _ (keeps .rendering n b o .told-is) (render-pass n b o);
 }
 
 -- looks at input alone answer no number of an outcome

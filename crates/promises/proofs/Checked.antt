@@ -5,14 +5,14 @@ use mathlib.Core.Logic.{_↔_, inl, inr, ⊎-elim}
 use mathlib.Core.Path.{_∙_, _≡_, ap, refl, subst, sym}
 use Prim.Native.Nat.{_<_, ℕ}
 use native.Mathlib.Omega.{arith}
-use borrow.Author.Tests.{lt-ltb, ltb-false, ltb-true}
+use borrow.Author.Tests.{le-ltb, lt-ltb, ltb-false, ltb-true}
 use lib.Dec.{ltb}
 use lib.ListN.{getD}
 use Rattle.sets.proofs.Bools.{and-i, and-l, and-r, not-e, not-i, or-case, or-l, or-r}
 use Rattle.sets.proofs.Members.{all-below}
 use Rattle.sets.specs.Species.{Below, Inside, below}
 use Rattle.trees.proofs.Theorems.{forced-exactly, pc-exactly}
-use Rattle.trees.specs.Check.{PC, differs, sure, unsure}
+use Rattle.trees.specs.Check.{PC, PI, differs, sure, unsure}
 use Rattle.trees.specs.Trees.{Tree, under, wellFormed}
 use Rattle.trees.specs.Triplets.{Triplets, holds, onTriple}
 use Rattle.tables.proofs.Bytes.{entered-proper}
@@ -26,20 +26,21 @@ use Rattle.bodies.proofs.Drawn.{tree-below, tree-formed}
 use Rattle.bodies.proofs.Rules.{length-good}
 use Rattle.bodies.specs.Draws.{treeOf}
 use Rattle.bodies.specs.Nodes.{nodes}
-use Rattle.answers.proofs.Answered.{first-on, told-first}
+use Rattle.answers.proofs.Answered.{first-on, pass-false, pass-one, told-first}
 use Rattle.answers.specs.Answers.{Told}
 use Rattle.answers.specs.Looks as Looks
 use Rattle.answers.specs.Looks.{answered, lookTold, refuseIf}
 use Rattle.answers.specs.declared.Look.{Look}
+use Rattle.answers.specs.declared.Look.the-variants.{Pass}
 use Rattle.answers.specs.declared.Refusal.the-variants.{Contradicted}
 use Rattle.answers.specs.declared.Refusal.the-variants.{Unforced as Unforced′}
-use Rattle.checking.specs.Checks.{checkLooks, checkTold, firstDiffers, firstUnsure, triplesLooks}
+use Rattle.checking.specs.Checks.{candidateLooks, checkLooks, checkTold, firstDiffers, firstUnsure, lookPC, lookPI, triplesLooks}
 use Rattle.checking.specs.declared.Answer.{Answer}
 use Rattle.checking.specs.declared.Answer.the-variants.{Passes, Refused}
 use Rattle.promises.specs.Operations.{checks}
 use Rattle.promises.specs.Inputs.{Checkable}
 use Rattle.promises.specs.Demand2.{ChecksRight, Contradicts, FirstTriple, Loose, Unforced}
-use Rattle.promises.proofs.Accepted.{bothLooks, check-pass}
+use Rattle.promises.proofs.Accepted.{check-pass, pc-pass, then-known, zero-good}
 
 -- the first index is that of the first triple
 first-triple : (n : ℕ) (P : Triplets) → firstTriple n P < C n 3 → FirstTriple n (λ a b c. So (onTriple P a b c)) (firstTriple n P)
@@ -137,11 +138,27 @@ check-told k = told-first checkTold (λ (a : Answer). a) Refused Passes refl (λ
 
 module _ (n : ℕ) (t b : List ℕ) (g : Checkable n t b) where
   pub checks-tree : checks n t b ≡ lookTold (Looks.firstRefusal (triplesLooks n t (treeOf b))) []
-  checks-tree = check-told (Looks.firstRefusal (checkLooks n t b)) ∙ ap (λ (k : Look). lookTold k []) (first-on (bothLooks n t b) (triplesLooks n t (treeOf b)) (check-pass n t b .1 g))
+  checks-tree = check-told (Looks.firstRefusal (checkLooks n t b)) ∙ ap (λ (k : Look). lookTold k []) (first-on (candidateLooks n t b) (triplesLooks n t (treeOf b)) (check-pass n t b .1 g))
 
   some : 0 < nodes b .count
   some = length-good b (g .body .long) .0
 
+  formed : So (wellFormed (treeOf b))
+  formed = tree-formed n (nodes b) (g .body .good) some
+
+  bd : Below n (under (treeOf b))
+  bd = tree-below n (nodes b) (g .body .good) some
+
   pub good-checked : ChecksRight n t (below n) (treeOf b) (checks n t b)
-  good-checked = subst (λ (r : Told). ChecksRight n t (below n) (treeOf b) r) (sym checks-tree)
-      (told-of n t (treeOf b) (tree-formed n (nodes b) (g .body .good) some) (tree-below n (nodes b) (g .body .good) some) _ _ refl refl)
+  good-checked = subst (λ (r : Told). ChecksRight n t (below n) (treeOf b) r) (sym checks-tree) (told-of n t (treeOf b) formed bd _ _ refl refl)
+
+  pi-pass : PC (entered t) (below n) (treeOf b) → (lookPI n t (treeOf b) ≡ Pass) ↔ PI (entered t) (below n) (treeOf b)
+  pi-pass pc =
+      let j = firstUnsure n t (treeOf b) in
+      let k = pi-first n t (treeOf b) formed (inside n t (treeOf b) formed bd) pc in
+      ((λ e. k .1 (ltb-false j (C n 3) (pass-false (ltb j (C n 3)) _ e))), λ pi. rw (le-ltb j (C n 3) (k .0 pi)) refl)
+
+  -- "the whole check": PC and PI
+  pub checked-passes : (checks n t b .number ≡ 0) ↔ (PC (entered t) (below n) (treeOf b) × PI (entered t) (below n) (treeOf b))
+  checked-passes = zero-good (checks n t b) (Looks.firstRefusal (triplesLooks n t (treeOf b))) [] checks-tree
+      (then-known (lookPC n t (treeOf b) ∷ []) (lookPI n t (treeOf b) ∷ []) (pass-one (lookPC n t (treeOf b)) (pc-pass n t b g)) (λ pc. pass-one (lookPI n t (treeOf b)) (pi-pass pc)))

@@ -12,14 +12,14 @@ use Rattle.promises.specs.Operations.{gives}
 use Rattle.promises.specs.Demand1.{Chosen}
 
 -- an operation that tells w as 0 with vs, and a refusal by the table
-module _ {A W : Type 0} (tell : A → Told) (done : W → A) (refused : Refusal → A) (w : W) {vs : List Value} (e : tell (done w) ≡ told 0 vs) (g : (x : Refusal) → tell (refused x) ≡ refusalTold x) where
-  pub chosen : (l : List Look) (m o : List ℕ) → Chosen l vs o (gives (tell (answered done refused (firstRefusal l) w)) (after (firstRefusal l) m o))
+module _ {A W B : Type 0} (tell : A → Told) (done : W → A) (refused : Refusal → A) (w : W) {vs : List Value} (e : tell (done w) ≡ told 0 vs) (g : (x : Refusal) → tell (refused x) ≡ refusalTold x) where
+  pub chosen : (l : List Look) (m o : B) → Chosen l vs o (gives (tell (answered done refused (firstRefusal l) w)) (after (firstRefusal l) m o))
   chosen l m o =
       let t = told-first tell done refused w e g (firstRefusal l) in
       record { told-is = t; kept = λ h. kept (firstRefusal l) vs m o (subst (λ (r : Told). r .number ≡ 0 → ⊥) t h) }
 
 -- The contract says what is given: whatever meets it, an answer r and what was lent, now o′, is this.
-pub settled-gives : {A W : Type 0} (tell : A → Told) {done : W → A} {refused : Refusal → A} {l : List Look} {w : W} {m o : List ℕ} {r : A} {o′ : List ℕ} → Settled done refused l w m o r o′
+pub settled-gives : {A W B : Type 0} (tell : A → Told) {done : W → A} {refused : Refusal → A} {l : List Look} {w : W} {m o : B} {r : A} {o′ : B} → Settled done refused l w m o r o′
     → gives (tell r) o′ ≡ gives (tell (answered done refused (firstRefusal l) w)) (after (firstRefusal l) m o)
 settled-gives tell s = ap₂ gives (ap tell (s .is)) (s .holds)
 

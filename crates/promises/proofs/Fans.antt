@@ -1,5 +1,5 @@
--- Two tables that differ in the bits 8 alone say the same triplets: the same is built of them, and the check answers the same, but for the byte that 11
--- returns. Assumes nothing.
+-- Two tables that differ in the bits 8 alone say the same triplets: the same is built of them, and loosened by them, and the check answers the same, but for the byte
+-- that 11 returns. Assumes nothing.
 use mathlib.Core.Bool.{Bool, _&&_, false, true}
 use mathlib.Core.List.{List, [], _∷_, _++_}
 use mathlib.Core.Logic.{inl, inr}
@@ -11,6 +11,7 @@ use lib.ListN.{getD, length}
 use Rattle.sets.specs.Sets.{has, size}
 use Rattle.trees.specs.Build.{Outcome, buildBy}
 use Rattle.trees.specs.Check.{differs, unsure}
+use Rattle.trees.specs.Loosen.{Loosened, loosened}
 use Rattle.trees.specs.Triplets.{Triplets, different}
 use Rattle.tables.proofs.Limits.{small-exactly}
 use Rattle.tables.proofs.Places.{bit-most}
@@ -30,11 +31,13 @@ use Rattle.building.proofs.Chosen.{outside-pass}
 use Rattle.building.specs.Builds.{buildDone, buildRoom, buildTold, lookOutcome, outcomeBy}
 use Rattle.building.specs.GoodSet.{lookOutside, lookSet}
 use Rattle.building.specs.declared.Answer as Building
-use Rattle.checking.specs.Checks.{checkTold, firstDiffers, firstUnsure, lookPI, triplesLooks}
+use Rattle.checking.specs.Checks.{checkTold, firstDiffers, firstUnsure, lookPC, lookPI, triplesLooks}
+use Rattle.loosening.specs.Loosens.{Lent, eased, laidOut, lent, loosenTold, tally}
+use Rattle.loosening.specs.declared.Answer as Loosening
 use Rattle.checking.specs.declared.Answer.{Answer}
 use Rattle.checking.specs.declared.Answer.the-variants.{Passes, Refused}
 use Rattle.promises.specs.Fans.{FansApart, FansAside, SameVerdict}
-use Rattle.promises.specs.Operations.{Given, builds, checks, gives, koodhaxil, vetoes}
+use Rattle.promises.specs.Operations.{Given, GivenOf, builds, checks, gives, koodhaxil, loosens, vetoes}
 
 bytes-pass : (t : List ℕ) → ((i : ℕ) → Small (getD t i 0)) → lookBytes t ≡ Pass
 bytes-pass t h = rw (small-exactly t .1 h) refl
@@ -112,9 +115,48 @@ module _ (t t′ : List ℕ) (f : FansApart t t′) where
         ∙ sym (told-is t′))
         (verdict (firstRefusal (front t)) (ltb d (C n 3)) d (lookPI n t T)))
 
+    -- ---- loosening, lent the room o and the list d
+
+    module _ (o d : List ℕ) where
+      -- the looks where those at the candidate come to A, an entered triplet differs at the triple j with the byte v, or nowhere
+      abbrev looseLook : Look → Bool → ℕ → ℕ → Look
+      looseLook A c j v = andThen A (andThen (refuseIf c (Contradicted (record { index = j; byte = v }))) (andThen (lookRoom (length b) (length o)) (andThen (lookRoom 62 (length d)) Pass)))
+
+      -- what is given where those looks come to k, and the loosening to r
+      abbrev loosedOf : Look → Loosened → GivenOf Lent
+      loosedOf k r = gives (loosenTold (answered Loosening.the-variants.Done Loosening.the-variants.Refused k (tally r))) (after k (laidOut r (lent o d)) (lent o d))
+
+      abbrev lookBy : List ℕ → Look
+      lookBy u = looseLook (firstRefusal (front u)) (ltb (firstDiffers n u (treeOf b)) (C n 3)) (firstDiffers n u (treeOf b)) (getD u (firstDiffers n u (treeOf b)) 0)
+
+      loosed-is : (u : List ℕ) → loosens n u b o d ≡ loosedOf (lookBy u) (eased n u b)
+      loosed-is u = ap (λ (k : Look). loosedOf k (eased n u b)) (first-append (front u) (lookPC n u (treeOf b) ∷ lookRoom (length b) (length o) ∷ lookRoom 62 (length d) ∷ []))
+
+      abbrev SameLoosed : GivenOf Lent → GivenOf Lent → Type 0
+      SameLoosed g g′ = SameVerdict t t′ (g .told) (g′ .told) × (g .after ≡ g′ .after)
+
+      loosed-alike : (A : Look) (c : Bool) (j : ℕ) (r : Loosened) → SameLoosed (loosedOf (looseLook A c j (getD t j 0)) r) (loosedOf (looseLook A c j (getD t′ j 0)) r)
+      loosed-alike Pass true j r = (inr (j, refl, refl), refl)
+      loosed-alike Pass false j r = (inl refl, refl)
+      loosed-alike (Refuse x) c j r = (inl refl, refl)
+
+      same-eased : eased n t b ≡ eased n t′ b
+      unfolding eased
+      same-eased = ap (λ (E : Triplets). loosened E n (treeOf b)) same-entered
+
+      same-loosened : SameLoosed (loosens n t b o d) (loosens n t′ b o d)
+      same-loosened =
+          let j = firstDiffers n t (treeOf b) in
+          subst (λ (g : GivenOf Lent). SameLoosed g (loosens n t′ b o d)) (sym (loosed-is t)) (subst (SameLoosed _)
+          (ap₂ (λ (A : Look) (i : ℕ). loosedOf (looseLook A (ltb i (C n 3)) i (getD t′ i 0)) (eased n t b)) same-front same-differs
+          ∙ ap (loosedOf (lookBy t′)) same-eased
+          ∙ sym (loosed-is t′))
+          (loosed-alike (firstRefusal (front t)) (ltb j (C n 3)) j (eased n t b)))
+
 pub fans-aside : FansAside koodhaxil
 fans-aside = record {
   building = λ n s t t′ o f e e′. same-built t t′ f n s o e e′;
   vetoing = λ n s t t′ o f e e′. same-vetoed t t′ f n s o e e′;
   checking = λ n t t′ b f. same-checked t t′ f n b;
+  loosening = λ n t t′ b o d f. same-loosened t t′ f n b o d;
 }

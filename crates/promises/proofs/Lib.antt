@@ -20,6 +20,12 @@ pub mod UselessTexts
 pub mod UselessVetoes
 pub mod Runs
 pub mod Vetoed
+pub mod AsCheck
+pub mod Fewer
+pub mod Drops
+pub mod Loosened
+pub mod Finest
+pub mod UselessLooseners
 pub mod Own
 pub mod Occurring
 pub mod Fans

@@ -10,7 +10,7 @@ use Rattle.ordering.specs.declared.Answer as Ordering
 use Rattle.parsing.specs.declared.Answer as Parsing
 use Rattle.rendering.specs.declared.Answer as Rendering
 use Rattle.building.specs.declared.Answer as Building
-use Rattle.checking.specs.declared.Answer as Checking
+use Rattle.loosening.specs.declared.Answer as Loosening
 use Rattle.collections.specs.Reads.{countsOf, readLooks, readTold}
 use Rattle.listing.specs.Lists.{listLooks}
 use Rattle.entering.specs.Enters.{enterLooks, enterTold, entry}
@@ -20,6 +20,7 @@ use Rattle.rendering.specs.Renders.{renderDone, renderLooks, renderTold}
 use Rattle.building.specs.Builds.{buildDone, buildLooks, buildTold, inputLooks, outcome}
 use Rattle.building.specs.Vetoes.{vetoed}
 use Rattle.checking.specs.Checks.{checkLooks}
+use Rattle.loosening.specs.Loosens.{eased, lent, loosenLooks, loosenTold, tally}
 use Rattle.promises.specs.Accepts.{Accepts}
 use Rattle.promises.specs.Operations.{koodhaxil}
 use Rattle.promises.specs.Demand1.{Demand1}
@@ -48,6 +49,7 @@ demand1 = record {
   building = λ n s t o. chosen buildTold Building.the-variants.Done Building.the-variants.Refused (buildDone (outcome n s t)) refl (λ x. refl) (buildLooks n s t (length o)) _ o;
   vetoing = λ n s t o. chosen buildTold Building.the-variants.Done Building.the-variants.Refused (buildDone (vetoed n s t)) refl (λ x. refl) (inputLooks n s t (length o)) _ o;
   checking = λ n t b. check-told (firstRefusal (checkLooks n t b));
+  loosening = λ n t b o d. chosen loosenTold Loosening.the-variants.Done Loosening.the-variants.Refused (tally (eased n t b)) refl (λ x. refl) (loosenLooks n t b (length o) (length d)) _ (lent o d);
   parsing = λ n w o. chosen parseTold Parsing.the-variants.Done Parsing.the-variants.Refused (parseDone w) refl (λ x. refl) (parseLooks n w (length o)) _ o;
   rendering = λ n b o. chosen renderTold Rendering.the-variants.Done Rendering.the-variants.Refused (renderDone b) refl (λ x. refl) (renderLooks n b (length o)) _ o;
 }

@@ -10,7 +10,8 @@ use Rattle.parsing.specs.Parses.{parseTold}
 use Rattle.rendering.specs.Renders.{renderTold}
 use Rattle.building.specs.Builds.{buildTold}
 use Rattle.checking.specs.Checks.{checkTold}
-use Rattle.lines.specs.Lines.{buildLine, checkLine, enterLine, listLine, orderLine, parseLine, readLine, renderLine, vetoLine}
+use Rattle.loosening.specs.Loosens.{loosenTold}
+use Rattle.lines.specs.Lines.{buildLine, checkLine, enterLine, listLine, loosenLine, orderLine, parseLine, readLine, renderLine, vetoLine}
 use Rattle.promises.specs.Operations.{koodhaxil}
 use Rattle.promises.specs.Linked.{Linked, Printed}
 use Rattle.promises.specs.Tied.{Tied}
@@ -30,6 +31,7 @@ tied = record {
   building = λ M 𝓤 H A mem run κs a g r s. fact-mono 𝓤 _ _ (λ h. settled-gives buildTold h);
   vetoing = λ M 𝓤 H A mem run κs a g r s. fact-mono 𝓤 _ _ (λ h. settled-gives buildTold h);
   checking = λ M 𝓤 H A mem run κs a g r s. fact-mono 𝓤 _ _ (λ h. ap checkTold h);
+  loosening = λ M 𝓤 H A mem run κs a g r s. fact-mono 𝓤 _ _ (λ h. settled-gives loosenTold h);
   parsing = λ M 𝓤 H A mem run κs a g r s. fact-mono 𝓤 _ _ (λ h. settled-gives parseTold h);
   rendering = λ M 𝓤 H A mem run κs a g r s. fact-mono 𝓤 _ _ (λ h. settled-gives renderTold h);
 }
@@ -45,12 +47,13 @@ linked = record {
   building = λ M 𝓤 H A mem run κs a g r s. both-say 𝓤 (λ h k. record { handed = h; left = k });
   vetoing = λ M 𝓤 H A mem run κs a g r s. both-say 𝓤 (λ h k. record { handed = h; left = k });
   checking = λ M 𝓤 H A mem run κs a g r s. fact-mono 𝓤 _ _ (λ h. h);
+  loosening = λ M 𝓤 H A mem run κs a g r s. both-say 𝓤 (λ h k. record { handed = h; left = k });
   parsing = λ M 𝓤 H A mem run κs a g r s. both-say 𝓤 (λ h k. record { handed = h; left = k });
   rendering = λ M 𝓤 H A mem run κs a g r s. both-say 𝓤 (λ h k. record { handed = h; left = k });
 }
 
 pub printed : Printed koodhaxil
-unfolding readLine listLine enterLine orderLine buildLine vetoLine checkLine parseLine renderLine
+unfolding readLine listLine enterLine orderLine buildLine vetoLine checkLine loosenLine parseLine renderLine
 printed = record {
   reading = λ M 𝓤 H A mem run κs a g r s. fact-mono 𝓤 _ _ (λ h. h);
   listing = λ M 𝓤 H A mem run κs a g r s. both-say 𝓤 (λ h k. record { line = h; left = k });
@@ -59,6 +62,7 @@ printed = record {
   building = λ M 𝓤 H A mem run κs a g r s. both-say 𝓤 (λ h k. record { line = h; left = k });
   vetoing = λ M 𝓤 H A mem run κs a g r s. both-say 𝓤 (λ h k. record { line = h; left = k });
   checking = λ M 𝓤 H A mem run κs a g r s. fact-mono 𝓤 _ _ (λ h. h);
+  loosening = λ M 𝓤 H A mem run κs a g r s. both-say 𝓤 (λ h k. record { line = h; left = k });
   parsing = λ M 𝓤 H A mem run κs a g r s. both-say 𝓤 (λ h k. record { line = h; left = k });
   rendering = λ M 𝓤 H A mem run κs a g r s. both-say 𝓤 (λ h k. record { line = h; left = k });
 }

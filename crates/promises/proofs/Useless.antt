@@ -40,7 +40,7 @@ use Rattle.collections.specs.Reads.{looksFrom, readLooks}
 use Rattle.listing.specs.Lists.{saidUpTo}
 use Rattle.building.proofs.Numbered.{not-empty}
 use Rattle.building.specs.Builds.{outcome, outcomeBy}
-use Rattle.promises.specs.Operations.{Builder, Given, builds, checks, gives, lists}
+use Rattle.promises.specs.Operations.{Builder, Given, GivenOf, builds, checks, gives, lists}
 use Rattle.promises.specs.Inputs.{Buildable, Listable}
 use Rattle.promises.specs.Demand2.{ChecksRight, FirstTriple, Keeps, front}
 use Rattle.promises.specs.Demand3.{Full, tableOf}
@@ -116,7 +116,7 @@ inventing-breaks f i d =
     (r .one-of)
 
 -- on 0 it is h, and it answers 0 nowhere else
-on-zero : (g h : Given) → g .told .number ≡ 0 → onZero g h ≡ h
+pub on-zero : {B : Type 0} (g h : GivenOf B) → g .told .number ≡ 0 → onZero g h ≡ h
 on-zero g h z = rw (eq-eqb (g .told .number) 0 z) refl
 
 zero-on : (g h : Given) → onZero g h .told .number ≡ 0 → onZero g h ≡ h

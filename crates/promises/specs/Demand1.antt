@@ -19,10 +19,11 @@ use Rattle.rendering.specs.Texts.{newickText}
 use Rattle.building.specs.Builds.{buildLooks, inputLooks, nodesIn, outcome}
 use Rattle.building.specs.Vetoes.{vetoed}
 use Rattle.checking.specs.Checks.{checkLooks}
-use Rattle.promises.specs.Operations.{Given, Operations}
+use Rattle.loosening.specs.Loosens.{eased, lent, loosenLooks, tally, tallyValues}
+use Rattle.promises.specs.Operations.{GivenOf, Operations}
 
 -- what a call gives back, that was lent o: the number and the values of the first look of the order that refuses, else 0 with its values; and a refusal changes nothing
-pub record Chosen (order : List Look) (values : List Value) (o : List ℕ) (g : Given) : Type 0 where
+pub record Chosen {B : Type 0} (order : List Look) (values : List Value) (o : B) (g : GivenOf B) : Type 0 where
   pub told-is : g .told ≡ lookTold (firstRefusal order) values
   pub kept : g .told .number ≢ 0 → g .after ≡ o
 
@@ -35,5 +36,6 @@ pub record Demand1 (L : Operations) : Type 0 where
   pub building : (n s : ℕ) (t o : List ℕ) → Chosen (buildLooks n s t (length o)) (value node-count (nodesIn (outcome n s t)) ∷ []) o (L .build n s t o)
   pub vetoing : (n s : ℕ) (t o : List ℕ) → Chosen (inputLooks n s t (length o)) (value node-count (nodesIn (vetoed n s t)) ∷ []) o (L .veto n s t o)
   pub checking : (n : ℕ) (t b : List ℕ) → L .check n t b ≡ lookTold (firstRefusal (checkLooks n t b)) []
+  pub loosening : (n : ℕ) (t b o d : List ℕ) → Chosen (loosenLooks n t b (length o) (length d)) (tallyValues (tally (eased n t b))) (lent o d) (L .loosen n t b o d)
   pub parsing : (n : ℕ) (w o : List ℕ) → Chosen (parseLooks n w (length o)) (value node-count (nodes (textBody w) .count) ∷ []) o (L .parse n w o)
   pub rendering : (n : ℕ) (b o : List ℕ) → Chosen (renderLooks n b (length o)) (value text-length (length (newickText b)) ∷ []) o (L .render n b o)

@@ -23,8 +23,10 @@ SameVerdict t t′ r r′ = (r ≡ r′) ⊎ ((i : ℕ)
     × (r ≡ told 11 (value triple-index i ∷ value table-byte (getD t i 0) ∷ []))
     × (r′ ≡ told 11 (value triple-index i ∷ value table-byte (getD t′ i 0) ∷ [])))
 
--- such tables give the same build, the plain one and the veto build, where 16 refuses neither, and the same check
+-- such tables give the same build, the plain one and the veto build, where 16 refuses neither, the same check, and the same loosening, which uses what the check does
 pub record FansAside (L : Operations) : Type 0 where
   pub building : (n s : ℕ) (t t′ o : List ℕ) → FansApart t t′ → Enclosed n s t → Enclosed n s t′ → L .build n s t o ≡ L .build n s t′ o
   pub vetoing : (n s : ℕ) (t t′ o : List ℕ) → FansApart t t′ → Enclosed n s t → Enclosed n s t′ → L .veto n s t o ≡ L .veto n s t′ o
   pub checking : (n : ℕ) (t t′ b : List ℕ) → FansApart t t′ → SameVerdict t t′ (L .check n t b) (L .check n t′ b)
+  pub loosening : (n : ℕ) (t t′ b o d : List ℕ) → FansApart t t′
+      → SameVerdict t t′ (L .loosen n t b o d .told) (L .loosen n t′ b o d .told) × (L .loosen n t b o d .after ≡ L .loosen n t′ b o d .after)

@@ -58,6 +58,15 @@ pub record Checkable (n : ℕ) (t b : List ℕ) : Type 0 where
   pub table : Table n t
   pub body : Body n b
 
+-- request T-07: "2, 7, 8, 5, 6, [..] then 9 where the tree room is shorter than the candidate's body or the lent list has under 62 places"; 11, between them, speaks
+-- of the outcome
+pub record Loosenable (n : ℕ) (t b o d : List ℕ) : Type 0 where
+  pub count : Count n
+  pub table : Table n t
+  pub body : Body n b
+  pub tree-room : length b ≤ length o
+  pub list : 62 ≤ length d
+
 -- request T-01: "2; then 14 with the byte place [..]; then 6; then 9 where the room is shorter than the body"
 pub record Parsable (n : ℕ) (w o : List ℕ) : Type 0 where
   pub count : Count n

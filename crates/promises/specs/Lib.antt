@@ -8,9 +8,12 @@ pub mod Demand3
 pub mod Newick
 pub mod Together
 pub mod Veto
+pub mod Loosening
+pub mod Finest
 pub mod Fans
 pub mod Useless
 pub mod UselessVetoes
+pub mod UselessLooseners
 pub mod Tied
 pub mod Linked
 pub mod Forms

@@ -8,16 +8,18 @@ use Rattle.lines.proofs.build_line as build-line
 use Rattle.lines.proofs.check_line as check-line
 use Rattle.lines.proofs.enter_line as enter-line
 use Rattle.lines.proofs.list_line as list-line
+use Rattle.lines.proofs.loosen_line as loosen-line
 use Rattle.lines.proofs.order_line as order-line
 use Rattle.lines.proofs.parse_line as parse-line
 use Rattle.lines.proofs.read_line as read-line
 use Rattle.lines.proofs.render_line as render-line
 use Rattle.lines.proofs.veto_line as veto-line
-use Rattle.lines.specs.Lines.{barred, toldText}
+use Rattle.lines.specs.Lines.{barred, lentText, toldText}
 use Rattle.exports.proofs.koodhaxil_build as c-build
 use Rattle.exports.proofs.koodhaxil_check as c-check
 use Rattle.exports.proofs.koodhaxil_enter as c-enter
 use Rattle.exports.proofs.koodhaxil_list as c-list
+use Rattle.exports.proofs.koodhaxil_loosen as c-loosen
 use Rattle.exports.proofs.koodhaxil_order as c-order
 use Rattle.exports.proofs.koodhaxil_parse as c-parse
 use Rattle.exports.proofs.koodhaxil_read as c-read
@@ -25,12 +27,13 @@ use Rattle.exports.proofs.koodhaxil_render as c-render
 use Rattle.exports.proofs.koodhaxil_veto as c-veto
 use Rattle.triplets.specs.Spelled.{spelled}
 use Rattle.exports.specs.Codes.{Handed}
-use Rattle.promises.specs.Operations.{Given, Operations}
+use Rattle.loosening.specs.Loosens.{lent}
+use Rattle.promises.specs.Operations.{Given, GivenOf, Operations}
 use Rattle.promises.specs.Tied.{After}
 use Prim.Native.Nat.{ℕ}
 
 -- a C function was lent memory, which is o now, and `values`, which were vs and are vs′ now; its result is r
-pub record Hands (g : Given) (vs : List ℕ) (r : ℕ) (vs′ o : List ℕ) : Type 0 where
+pub record Hands {B : Type 0} (g : GivenOf B) (vs : List ℕ) (r : ℕ) (vs′ : List ℕ) (o : B) : Type 0 where
   pub handed : Handed (g .told) vs r vs′
   pub left : o ≡ g .after
 
@@ -48,15 +51,22 @@ pub record Linked (L : Operations) : Type 2 where
       (λ κs a r s. Hands (L .veto (a .0) (a .1 .0) (a .1 .1 .0 .now) (a .1 .1 .1 .0 .now)) (a .1 .1 .1 .1 .0 .now) r (s .1 .1 .1 .1 .0 .now) (s .1 .1 .1 .0 .now))
   pub checking : After c-check.ended (λ M. c-check.clauses)
       (λ κs a r s. Handed (L .check (a .0) (a .1 .0 .now) (a .1 .1 .0 .now)) (a .1 .1 .1 .0 .now) r (s .1 .1 .1 .0 .now))
+  pub loosening : After c-loosen.ended (λ M. c-loosen.clauses)
+      (λ κs a r s. Hands (L .loosen (a .0) (a .1 .0 .now) (a .1 .1 .0 .now) (a .1 .1 .1 .0 .now) (a .1 .1 .1 .1 .0 .now)) (a .1 .1 .1 .1 .1 .0 .now) r (s .1 .1 .1 .1 .1 .0 .now)
+      (lent (s .1 .1 .1 .0 .now) (s .1 .1 .1 .1 .0 .now)))
   pub parsing : After c-parse.ended (λ M. c-parse.clauses)
       (λ κs a r s. Hands (L .parse (a .0) (a .1 .0 .now) (a .1 .1 .0 .now)) (a .1 .1 .1 .0 .now) r (s .1 .1 .1 .0 .now) (s .1 .1 .0 .now))
   pub rendering : After c-render.ended (λ M. c-render.clauses)
       (λ κs a r s. Hands (L .render (a .0) (a .1 .0 .now) (a .1 .1 .0 .now)) (a .1 .1 .1 .0 .now) r (s .1 .1 .1 .0 .now) (s .1 .1 .0 .now))
 
--- a line was written at `at` into the text x, which is x′ now, and the next byte goes to r: the answer, and what was lent, which is o now
-pub record Prints (g : Given) (x : List ℕ) (at : ℕ) (x′ : List ℕ) (r : ℕ) (o : List ℕ) : Type 0 where
-  pub line : Writes x at (ended (toldText (g .told) ++ barred (g .after))) x′ r
+-- a line was written at `at` into the text x, which is x′ now, and the next byte goes to r: the answer, and what was lent, which is o now and has the text `text`
+pub record PrintsBy {B : Type 0} (text : B → List ℕ) (g : GivenOf B) (x : List ℕ) (at : ℕ) (x′ : List ℕ) (r : ℕ) (o : B) : Type 0 where
+  pub line : Writes x at (ended (toldText (g .told) ++ text (g .after))) x′ r
   pub left : o ≡ g .after
+
+-- a table, or a room
+abbrev pub Prints : Given → List ℕ → ℕ → List ℕ → ℕ → List ℕ → Type 0
+Prints = PrintsBy barred
 
 pub record Printed (L : Operations) : Type 2 where
   pub reading : After read-line.ended (λ M. read-line.clauses)
@@ -73,6 +83,9 @@ pub record Printed (L : Operations) : Type 2 where
       (λ κs a r s. Prints (L .veto (a .1 .1 .0) (a .1 .1 .1 .0) (a .1 .1 .1 .1 .0 .now) (a .1 .1 .1 .1 .1 .0 .now)) (a .0 .now) (a .1 .0) (s .0 .now) r (s .1 .1 .1 .1 .1 .0 .now))
   pub checking : After check-line.ended (λ M. check-line.clauses)
       (λ κs a r s. Writes (a .0 .now) (a .1 .0) (ended (toldText (L .check (a .1 .1 .0) (a .1 .1 .1 .0 .now) (a .1 .1 .1 .1 .0 .now)))) (s .0 .now) r)
+  pub loosening : After loosen-line.ended (λ M. loosen-line.clauses)
+      (λ κs a r s. PrintsBy lentText (L .loosen (a .1 .1 .0) (a .1 .1 .1 .0 .now) (a .1 .1 .1 .1 .0 .now) (a .1 .1 .1 .1 .1 .0 .now) (a .1 .1 .1 .1 .1 .1 .0 .now)) (a .0 .now) (a .1 .0) (s .0 .now) r
+      (lent (s .1 .1 .1 .1 .1 .0 .now) (s .1 .1 .1 .1 .1 .1 .0 .now)))
   pub parsing : After parse-line.ended (λ M. parse-line.clauses)
       (λ κs a r s. Prints (L .parse (a .1 .1 .0) (a .1 .1 .1 .0 .now) (a .1 .1 .1 .1 .0 .now)) (a .0 .now) (a .1 .0) (s .0 .now) r (s .1 .1 .1 .1 .0 .now))
   pub rendering : After render-line.ended (λ M. render-line.clauses)

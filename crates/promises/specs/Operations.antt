@@ -12,13 +12,18 @@ use Rattle.rendering.specs.Renders.{renderAfter, renderAnswer, renderTold}
 use Rattle.building.specs.Builds.{buildAfter, buildAnswer, buildTold}
 use Rattle.building.specs.Vetoes.{vetoAfter, vetoAnswer}
 use Rattle.checking.specs.Checks.{checkAnswer, checkTold}
+use Rattle.loosening.specs.Loosens.{Lent, lent, loosenAfter, loosenAnswer, loosenTold}
 
--- what a call gives back: document 01's number with its values, and what the lent memory holds afterwards
-pub record Given : Type 0 where
+-- what a call gives back: document 01's number with its values, and what the lent memory, of the type B, holds afterwards
+pub record GivenOf (B : Type 0) : Type 0 where
   pub told : Told
-  pub after : List ℕ
+  pub after : B
 
-abbrev pub gives : Told → List ℕ → Given
+-- where one table or one room is lent
+abbrev pub Given : Type 0
+Given = GivenOf (List ℕ)
+
+abbrev pub gives : {B : Type 0} → Told → B → GivenOf B
 gives r o = record { told = r; after = o }
 
 -- from a collection
@@ -53,6 +58,10 @@ Renderer = ℕ → List ℕ → List ℕ → Given
 abbrev pub Checker : Type 0
 Checker = ℕ → List ℕ → List ℕ → Told
 
+-- from n, a table, a body, lent room, and a lent list of 64-bit numbers
+abbrev pub Loosener : Type 0
+Loosener = ℕ → List ℕ → List ℕ → List ℕ → List ℕ → GivenOf Lent
+
 pub record Operations : Type 0 where
   pub read : Reader
   pub list : Lister
@@ -61,6 +70,7 @@ pub record Operations : Type 0 where
   pub build : Builder
   pub veto : Builder
   pub check : Checker
+  pub loosen : Loosener
   pub parse : Parser
   pub render : Renderer
 
@@ -87,6 +97,9 @@ vetoes n s t o = record { told = buildTold (vetoAnswer n s t (length o)); after 
 abbrev pub checks : Checker
 checks n t b = checkTold (checkAnswer n t b)
 
+abbrev pub loosens : Loosener
+loosens n t b o d = record { told = loosenTold (loosenAnswer n t b (length o) (length d)); after = loosenAfter n t b (lent o d) }
+
 abbrev pub parses : Parser
 parses n w o = record { told = parseTold (parseAnswer n w (length o)); after = parseAfter n w o }
 
@@ -94,4 +107,4 @@ abbrev pub renders : Renderer
 renders n b o = record { told = renderTold (renderAnswer n b (length o)); after = renderAfter n b o }
 
 abbrev pub koodhaxil : Operations
-koodhaxil = record { read = reads; list = lists; enter = enters; order = orders; build = builds; veto = vetoes; check = checks; parse = parses; render = renders }
+koodhaxil = record { read = reads; list = lists; enter = enters; order = orders; build = builds; veto = vetoes; check = checks; loosen = loosens; parse = parses; render = renders }

@@ -25,6 +25,8 @@ use Rattle.building.proofs.veto as veto
 use Rattle.building.specs.Builds.{buildTold}
 use Rattle.checking.proofs.check as check
 use Rattle.checking.specs.Checks.{checkTold}
+use Rattle.loosening.proofs.loosen as loosen
+use Rattle.loosening.specs.Loosens.{lent, loosenTold}
 use Rattle.parsing.proofs.parse as parse
 use Rattle.parsing.specs.Parses.{parseTold}
 use Rattle.rendering.proofs.render as render
@@ -49,5 +51,7 @@ pub record Tied (L : Operations) : Type 2 where
   pub building : After build.ended (λ M. build.clauses) (λ κs a r s. gives (buildTold r) (s .1 .1 .1 .0 .now) ≡ L .build (a .0) (a .1 .0) (a .1 .1 .0 .now) (a .1 .1 .1 .0 .now))
   pub vetoing : After veto.ended (λ M. veto.clauses) (λ κs a r s. gives (buildTold r) (s .1 .1 .1 .0 .now) ≡ L .veto (a .0) (a .1 .0) (a .1 .1 .0 .now) (a .1 .1 .1 .0 .now))
   pub checking : After check.ended (λ M. check.clauses) (λ κs a r s. checkTold r ≡ L .check (a .0) (a .1 .0 .now) (a .1 .1 .0 .now))
+  pub loosening : After loosen.ended (λ M. loosen.clauses)
+      (λ κs a r s. gives (loosenTold r) (lent (s .1 .1 .1 .0 .now) (s .1 .1 .1 .1 .0 .now)) ≡ L .loosen (a .0) (a .1 .0 .now) (a .1 .1 .0 .now) (a .1 .1 .1 .0 .now) (a .1 .1 .1 .1 .0 .now))
   pub parsing : After parse.ended (λ M. parse.clauses) (λ κs a r s. gives (parseTold r) (s .1 .1 .0 .now) ≡ L .parse (a .0) (a .1 .0 .now) (a .1 .1 .0 .now))
   pub rendering : After render.ended (λ M. render.clauses) (λ κs a r s. gives (renderTold r) (s .1 .1 .0 .now) ≡ L .render (a .0) (a .1 .0 .now) (a .1 .1 .0 .now))

@@ -30,6 +30,8 @@ use Rattle.building.specs.Builds.{buildTold}
 use Rattle.building.specs.declared.Answer as Building
 use Rattle.checking.specs.Checks.{checkTold}
 use Rattle.checking.specs.declared.Answer as Checking
+use Rattle.loosening.specs.Loosens.{loosenTold}
+use Rattle.loosening.specs.declared.Answer as Loosening
 use Rattle.replies.specs.Plain.{Apart, Item, Plain, ToldApart, broken-rule, plain, plain-number}
 use Rattle.replies.specs.Replied.{replied}
 use Rattle.replies.specs.declared.Reply.{Reply}
@@ -182,6 +184,16 @@ check-found (Checking.the-variants.Refused x) = refused-found checkBack Checking
 
 pub check-apart : ToldApart checkTold
 check-apart = found-apart (λ (a : Checking.Answer). plain (checkTold a)) (answerIn checkBack Checking.the-variants.Refused) check-found
+
+abbrev loosenBack : Plain → Loosening.Answer
+loosenBack p = Loosening.the-variants.Done (record { nodes = numberAt 0 p; dropped = numberAt 1 p })
+
+loosen-found : (a : Loosening.Answer) → answerIn loosenBack Loosening.the-variants.Refused (plain (loosenTold a)) ≡ a
+loosen-found (Loosening.the-variants.Done w) = refl
+loosen-found (Loosening.the-variants.Refused x) = refused-found loosenBack Loosening.the-variants.Refused x
+
+pub loosen-apart : ToldApart loosenTold
+loosen-apart = found-apart (λ (a : Loosening.Answer). plain (loosenTold a)) (answerIn loosenBack Loosening.the-variants.Refused) loosen-found
 
 -- ---- replies
 

@@ -8,6 +8,7 @@ ghost use Rattle.parsing.specs.Parses.{parseTold};
 ghost use Rattle.rendering.specs.Renders.{renderTold};
 ghost use Rattle.building.specs.Builds.{buildTold};
 ghost use Rattle.checking.specs.Checks.{checkTold};
+ghost use Rattle.loosening.specs.Loosens.{loosenTold};
 ghost use Rattle.replies.specs.Plain.{plain};
 ghost use Rattle.replies.specs.Replied.{replied};
 
@@ -111,5 +112,15 @@ pub fn check(a: checking::Answer) -> Reply
     match a {
         checking::Answer::Passes => Reply::Bare(0),
         checking::Answer::Refused(x) => refusal(x),
+    }
+}
+
+// The reply to an answer of loosening.
+pub fn loosen(a: loosening::Answer) -> Reply
+    ensures { λ r. ⌜ replied r ≡ plain (loosenTold a) ⌝ }
+{
+    match a {
+        loosening::Answer::Done(w) => Reply::Two(0, w.nodes, w.dropped),
+        loosening::Answer::Refused(x) => refusal(x),
     }
 }

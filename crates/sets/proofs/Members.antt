@@ -8,7 +8,7 @@ use native.Mathlib.Omega.{arith}
 use borrow.Author.Tests.{eqb-true, ltb-true, not-true}
 use lib.Dec.{eqb}
 use lib.ListN.{getD, length}
-use Rattle.sets.proofs.Bools.{and-i, by-order, lt-of-ne, ne-e, not-e, not-i, or-case, or-l, or-r, test}
+use Rattle.sets.proofs.Bools.{and-i, and-l, and-r, by-order, lt-of-ne, ne-e, not-e, not-i, or-case, or-l, or-r, test}
 use Rattle.sets.specs.Species.{Below, Inside, Species, any, below, from, inside, members, put}
 
 pub any-i : (n : ℕ) (P : Species) (i : ℕ) → i < n → So (P i) → So (any n P)
@@ -36,6 +36,9 @@ all-below n x h = ltb-true x n h
 
 pub inside-e : (n : ℕ) (P Q : Species) → Below n P → So (inside n P Q) → Inside P Q
 inside-e n P Q bd h x p = test (Q x) (λ q. q) (λ q. absurd (not-e _ h (any-i n (λ z. P z && not (Q z)) x (bd x p) (and-i (P x) _ p q))))
+
+pub inside-i : (n : ℕ) (P Q : Species) → Inside P Q → So (inside n P Q)
+inside-i n P Q h = not-i _ (λ k. let w = any-e n (λ z. P z && not (Q z)) k in not-e (Q w.0) (and-r (P w.0) _ (w .2)) (h (w .0) (and-l (P w.0) _ (w .2))))
 
 -- ---- lists of sets: their union, pairwise apart, each of them
 

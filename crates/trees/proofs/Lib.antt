@@ -31,3 +31,12 @@ pub mod Near
 pub mod VetoRule
 pub mod VetoTheorems
 pub mod VetoRuns
+pub mod Sizes
+pub mod Dropping
+pub mod DropGroups
+pub mod Unearned
+pub mod FirstUnearned
+pub mod Loosened
+pub mod LooseTheorems
+pub mod LooseRuns
+pub mod Finest

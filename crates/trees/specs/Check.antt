@@ -53,6 +53,10 @@ unsure E N T a b c = holds T a b c && not (sure E N T a b c)
 abbrev pub Joins : Triplets → Species → Species → Type 0
 Joins E S A = (X : Species) → Closed E S X → (u : ℕ) → So (A u) → So (X u) → Inside A X
 
--- each group but the root's is joined by the links on it and any one sibling group
+-- the links on the groups of s and s′ join that of s
+abbrev pub JoinedBeside : Triplets → Tree → Tree → Type 0
+JoinedBeside E s s′ = Joins E (either (under s) (under s′)) (under s)
+
+-- each group but the root's is earned: joined by the links on it and any one sibling group
 abbrev pub Earned : Triplets → Tree → Type 0
-Earned E T = (s s′ : Tree) → Siblings T s s′ → Joins E (either (under s) (under s′)) (under s)
+Earned E T = (s s′ : Tree) → Siblings T s s′ → JoinedBeside E s s′

@@ -7,3 +7,4 @@ pub mod Build
 pub mod Veto
 pub mod Held
 pub mod Check
+pub mod Loosen

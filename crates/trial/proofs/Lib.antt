@@ -1,2 +1,3 @@
--- Laws of the lines.
+-- Laws of the items and of the lines.
+mod Items
 mod Made

@@ -1,21 +1,32 @@
--- Records, three bytes each, and what a call takes of the lent memory.
+-- The items of a field: records, three bytes each, and sets, eight bytes each; and what a call takes of the lent memory.
 use mathlib.Core.List.{List, [], _∷_, _++_}
 use Prim.Native.Nat.{ℕ, zero, suc, _+_, _*_, _≤_, _/_}
 use lib.ListN.{getD, length}
+use Rattle.calls.specs.Numbers.{eightAt}
 
 -- record i of the bytes b
 abbrev pub recordAt : List ℕ → ℕ → List ℕ
 recordAt b i = getD b (3 * i) 0 ∷ getD b (3 * i + 1) 0 ∷ getD b (3 * i + 2) 0 ∷ []
 
--- the first m records of the bytes b
-unfoldable pub recordsUpTo : List ℕ → ℕ → List (List ℕ)
-recordsUpTo b zero = []
-recordsUpTo b (suc m) = recordsUpTo b m ++ (recordAt b m ∷ [])
+-- set i of the bytes b
+abbrev pub setAt : List ℕ → ℕ → ℕ
+setAt b i = eightAt b (8 * i)
 
--- all of them
+-- the first m items, of which `item` has each by its place
+unfoldable pub itemsUpTo : {A : Type 0} → (ℕ → A) → ℕ → List A
+itemsUpTo item zero = []
+itemsUpTo item (suc m) = itemsUpTo item m ++ (item m ∷ [])
+
+-- all of the records
 abbrev pub recordsOf : List ℕ → List (List ℕ)
-recordsOf b = recordsUpTo b (length b / 3)
+recordsOf b = itemsUpTo (recordAt b) (length b / 3)
 
--- the records that the first field may have fit, and so does the line of a call: four bytes for each byte of the second field, and a hundred more
-abbrev pub Room : List ℕ → List ℕ → List (List ℕ) → List ℕ → Type 0
-Room first second records out = (length first / 3 ≤ length records) × (4 * length second + 100 ≤ length out)
+-- all of the sets
+abbrev pub setsOf : List ℕ → List ℕ
+setsOf b = itemsUpTo (setAt b) (length b / 8)
+
+-- the records that the first field may have fit, and the sets that the fourth may have; and from `at` on so does the line of a call: four bytes for each byte of the
+-- second field, or of the third with twenty-one for each set of the fourth, and a hundred more
+abbrev pub Room : ℕ → List ℕ → List ℕ → List ℕ → List ℕ → List (List ℕ) → List ℕ → List ℕ → Type 0
+Room at first second third fourth records list out =
+    (length first / 3 ≤ length records) × (length fourth / 8 ≤ length list) × (at + 4 * length second + 100 ≤ length out) × (at + 4 * length third + 21 * (length fourth / 8) + 100 ≤ length out)

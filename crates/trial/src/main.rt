@@ -24,20 +24,23 @@ fn one_call(
     from: Input,
     first: &mut [u8],
     second: &mut [u8],
+    third: &mut [u8],
+    fourth: &mut [u8],
     records: &mut [[u8; 3]],
+    list: &mut [u64],
     out: &mut [u8],
     len: usize,
 ) -> State
     requires { ⌜ InBuffer from (now buffer) × (len ≤ length (now out)) ⌝ }
-    requires { ⌜ Room (now first) (now second) (now records) (now out) ⌝ }
+    requires { ⌜ Room 0 (now first) (now second) (now third) (now fourth) (now records) (now list) (now out) ⌝ }
     ensures { λ r. ⌜ OneCall from (now (buffer .entry)) (r .left) (now (buffer .exit)) (now (out .entry)) len (now (out .exit)) (r .len) ⌝ }
     ensures { λ r. ⌜ InBuffer (r .left) (now (buffer .exit)) × (r .len ≤ length (now (out .entry))) ⌝ }
 {
-    let c = calls::read_call(buffer, from, first, second);
+    let c = calls::read_call(buffer, from, first, second, third, fourth);
     let left = c.left;
     State {
         left: left,
-        len: making::make(c, first, second, records, out, len),
+        len: making::make(c, first, second, third, fourth, records, list, out, len),
     }
 }
 
@@ -54,17 +57,31 @@ fn answer(
     buffer: &mut [u8],
     first: &mut [u8],
     second: &mut [u8],
+    third: &mut [u8],
+    fourth: &mut [u8],
     records: &mut [[u8; 3]],
+    list: &mut [u64],
     out: &mut [u8],
 ) -> usize
-    requires { ⌜ Room (now first) (now second) (now records) (now out) ⌝ }
+    requires { ⌜ Room 0 (now first) (now second) (now third) (now fourth) (now records) (now list) (now out) ⌝ }
     ensures { λ r. ⌜ r ≤ length (now (out .exit)) ⌝ }
 {
     let mut left = calls::input::begin();
     let mut len = 0;
     let mut calls = MOST_CALLS;
     while 0 < calls {
-        let s = one_call(buffer, left, first, second, records, out, len);
+        let s = one_call(
+            buffer,
+            left,
+            first,
+            second,
+            third,
+            fourth,
+            records,
+            list,
+            out,
+            len,
+        );
         left = s.left;
         len = s.len;
         calls = calls_left(left, calls);
@@ -79,6 +96,13 @@ fn no_records() -> [[u8; 3]; 21845]
     [[0; 3]; 21845]
 }
 
+// Room for as many sets as 65,536 bytes are.
+fn no_sets() -> [u64; 8192]
+    ensures { λ r. ⌜ length r ≡ 8192 ⌝ }
+{
+    [0; 8192]
+}
+
 // Room for the longest line.
 fn no_text() -> [u8; 524288]
     ensures { λ r. ⌜ length r ≡ 524288 ⌝ }
@@ -90,8 +114,20 @@ fn main() {
     let mut buffer = io::large_buffer();
     let mut first = io::large_buffer();
     let mut second = io::large_buffer();
+    let mut third = io::large_buffer();
+    let mut fourth = io::large_buffer();
     let mut records = no_records();
+    let mut list = no_sets();
     let mut out = no_text();
-    let len = answer(&mut buffer, &mut first, &mut second, &mut records, &mut out);
+    let len = answer(
+        &mut buffer,
+        &mut first,
+        &mut second,
+        &mut third,
+        &mut fourth,
+        &mut records,
+        &mut list,
+        &mut out,
+    );
     io::write_all(1, &out[0..len]);
 }

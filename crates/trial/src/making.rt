@@ -1,13 +1,15 @@
 // A call that was read is made, and its line written.
 use calls::Call;
 ghost use mathlib.Core.Path.{_≡_};
+ghost use mathlib.Core.List.{[], _∷_};
 ghost use mathlib.Core.Logic.{_⊎_};
 ghost use Prim.Native.Nat.{_+_, _*_, _<_, _≤_, _/_};
 ghost use lib.ListN.{length, take};
-ghost use Rattle.lines.specs.Lines.{enterLine};
+ghost use Rattle.lines.specs.Lines.{enterLine, loosenLine};
 ghost use Rattle.writing.specs.Writes.{Writes};
-ghost use Rattle.trial.specs.Records.{Room, recordAt, recordsOf};
-ghost use Rattle.trial.specs.Made.{Waits, callLine, callText, madeLine};
+ghost use Rattle.calls.specs.Calls.{fieldsOf};
+ghost use Rattle.trial.specs.Records.{Room, recordAt, recordsOf, setsOf};
+ghost use Rattle.trial.specs.Made.{Waits, callLine, madeLine};
 
 // Record i of the bytes b.
 fn record(b: &[u8], i: usize) -> [u8; 3]
@@ -48,6 +50,38 @@ fn enter_line(
     lines::enter_line(out, at, n, &records[0..m], t)
 }
 
+// Lays the bytes out as sets, and answers how many there are.
+fn gather_sets(b: &[u8], list: &mut [u64]) -> usize
+    requires { ⌜ length (now b) / 8 ≤ length (now list) ⌝ }
+    ensures { λ r. ⌜ (r ≡ length (now (b .entry)) / 8) × (take r (now (list .exit)) ≡ setsOf (now (b .entry))) ⌝ }
+{
+    let m = b.len() / 8;
+    let mut i = 0;
+    while i < m {
+        list[i] = calls::eight(b, 8 * i) as u64;
+        i += 1;
+    }
+    m
+}
+
+// Loosens a tree, with a list that holds the sets that the bytes b are.
+fn loosen_line(
+    out: &mut [u8],
+    at: usize,
+    n: usize,
+    t: &[u8],
+    body: &[u8],
+    room: &mut [u8],
+    b: &[u8],
+    list: &mut [u64],
+) -> usize
+    requires { ⌜ (at + 4 * length (now room) + 21 * (length (now b) / 8) + 100 ≤ length (now out)) × (length (now b) / 8 ≤ length (now list)) ⌝ }
+    ensures { λ r. ⌜ Writes (now (out .entry)) at (loosenLine n (now (t .entry)) (now (body .entry)) (now (room .entry)) (setsOf (now (b .entry)))) (now (out .exit)) r ⌝ }
+{
+    let m = gather_sets(b, list);
+    lines::loosen_line(out, at, n, t, body, room, &mut list[0..m])
+}
+
 // Makes the call with this byte, and writes its line.
 fn call_line(
     byte: u8,
@@ -55,12 +89,15 @@ fn call_line(
     m: usize,
     first: &[u8],
     second: &mut [u8],
+    third: &mut [u8],
+    fourth: &[u8],
     records: &mut [[u8; 3]],
+    list: &mut [u64],
     out: &mut [u8],
     at: usize,
 ) -> usize
-    requires { ⌜ (at + 4 * length (now second) + 100 ≤ length (now out)) × (length (now first) / 3 ≤ length (now records)) ⌝ }
-    ensures { λ r. ⌜ Writes (now (out .entry)) at (callLine byte n m (now (first .entry)) (now (second .entry))) (now (out .exit)) r ⌝ }
+    requires { ⌜ Room at (now first) (now second) (now third) (now fourth) (now records) (now list) (now out) ⌝ }
+    ensures { λ r. ⌜ Writes (now (out .entry)) at (callLine byte n m (now (first .entry)) (now (second .entry)) (now (third .entry)) (now (fourth .entry))) (now (out .exit)) r ⌝ }
 {
     match byte {
         b'r' => lines::read_line(out, at, first),
@@ -71,6 +108,7 @@ fn call_line(
         b'v' => lines::veto_line(out, at, n, m as u64, first, second),
         b'n' => lines::parse_line(out, at, n, first, second),
         b'w' => lines::render_line(out, at, n, first, second),
+        b'x' => loosen_line(out, at, n, first, second, third, fourth, list),
         _ => lines::check_line(out, at, n, first, second),
     }
 }
@@ -80,12 +118,15 @@ fn line(
     c: Call,
     first: &[u8],
     second: &mut [u8],
+    third: &mut [u8],
+    fourth: &[u8],
     records: &mut [[u8; 3]],
+    list: &mut [u64],
     out: &mut [u8],
     at: usize,
 ) -> usize
-    requires { ⌜ (at + 4 * length (now second) + 100 ≤ length (now out)) × (length (now first) / 3 ≤ length (now records)) ⌝ }
-    ensures { λ r. ⌜ Writes (now (out .entry)) at (madeLine c (now (first .entry)) (now (second .entry))) (now (out .exit)) r ⌝ }
+    requires { ⌜ Room at (now first) (now second) (now third) (now fourth) (now records) (now list) (now out) ⌝ }
+    ensures { λ r. ⌜ Writes (now (out .entry)) at (madeLine c (now (first .entry) ∷ now (second .entry) ∷ now (third .entry) ∷ now (fourth .entry) ∷ [])) (now (out .exit)) r ⌝ }
 {
     let n = c.numbers[0];
     let m = c.numbers[1];
@@ -96,7 +137,26 @@ fn line(
     if !left.whole {
         return writing::put_word(out, at, b"cut\n");
     }
-    call_line(c.byte, n, m, first, second, records, out, at)
+    call_line(
+        c.byte,
+        n,
+        m,
+        first,
+        second,
+        third,
+        fourth,
+        records,
+        list,
+        out,
+        at,
+    )
+}
+
+// The larger one of two numbers.
+fn larger(a: usize, b: usize) -> usize
+    ensures { λ r. ⌜ (a ≤ r) × (b ≤ r) × ((r ≡ a) ⊎ (r ≡ b)) ⌝ }
+{
+    if a < b { b } else { a }
 }
 
 // Prints the text that waits, where the next line may not fit behind it.
@@ -116,16 +176,32 @@ pub fn make(
     c: Call,
     first: &[u8],
     second: &mut [u8],
+    third: &mut [u8],
+    fourth: &[u8],
     records: &mut [[u8; 3]],
+    list: &mut [u64],
     out: &mut [u8],
     len: usize,
 ) -> usize
-    requires { ⌜ (c .first ≤ length (now first)) × (c .second ≤ length (now second)) × (len ≤ length (now out)) ⌝ }
-    requires { ⌜ Room (now first) (now second) (now records) (now out) ⌝ }
-    ensures { λ r. ⌜ Waits (now (out .entry)) len (callText c (now (first .entry)) (now (second .entry))) (now (out .exit)) r ⌝ }
+    requires { ⌜ (c .first ≤ length (now first)) × (c .second ≤ length (now second)) × (c .third ≤ length (now third)) × (c .fourth ≤ length (now fourth)) × (len ≤ length (now out)) ⌝ }
+    requires { ⌜ Room 0 (now first) (now second) (now third) (now fourth) (now records) (now list) (now out) ⌝ }
+    ensures { λ r. ⌜ Waits (now (out .entry)) len (madeLine c (fieldsOf c (now (first .entry)) (now (second .entry)) (now (third .entry)) (now (fourth .entry)))) (now (out .exit)) r ⌝ }
 {
     let i = c.first;
     let j = c.second;
-    let at = make_room(out, len, 4 * j + 100);
-    line(c, &first[0..i], &mut second[0..j], records, out, at)
+    let k = c.third;
+    let l = c.fourth;
+    let longest = larger(4 * j + 100, 4 * k + 21 * (l / 8) + 100);
+    let at = make_room(out, len, longest);
+    line(
+        c,
+        &first[0..i],
+        &mut second[0..j],
+        &mut third[0..k],
+        &fourth[0..l],
+        records,
+        list,
+        out,
+        at,
+    )
 }

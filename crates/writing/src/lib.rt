@@ -74,6 +74,20 @@ pub fn put_bytes(out: &mut [u8], at: usize, l: &[u8]) -> usize
     next
 }
 
+// Writes sets, as 64-bit numbers in decimal, each after a space.
+pub fn put_sets(out: &mut [u8], at: usize, l: &[u64]) -> usize
+    requires { ⌜ at + 21 * length (now l) ≤ length (now out) ⌝ }
+    ensures { λ r. ⌜ Writes (now (out .entry)) at (spaced (now (l .entry))) (now (out .exit)) r ⌝ }
+{
+    let mut next = at;
+    let mut i = 0;
+    while i < l.len() {
+        next = put_spaced(out, next, l[i]);
+        i += 1;
+    }
+    next
+}
+
 // Lays the first `end` bytes of a text over the front of room.
 pub fn copy(text: &[u8], end: usize, room: &mut [u8])
     requires { ⌜ (end ≤ length (now text)) × (end ≤ length (now room)) ⌝ }

@@ -33,6 +33,9 @@ row-requires-8 c κs = search needs
 row-requires-9 : tie.Need-row-requires-9
 row-requires-9 c κs = search needs
 
+row-requires-10 : tie.Need-row-requires-10
+row-requires-10 c κs = search needs
+
 returns : tie.Need-returns
 unfolding shape
 returns c = shape-same (c .before .match .keys1) (c .row .ensures) (omega arith)
@@ -70,9 +73,13 @@ unfolding shape
 returns-9 c = shape-same (c .before .match .keys9) (c .row9 .ensures) (omega arith)
 
 returns-10 : tie.Need-returns-10
-returns-10 c =
+unfolding shape
+returns-10 c = shape-same (c .before .match .keys10) (c .row10 .ensures) (omega arith)
+
+returns-11 : tie.Need-returns-11
+returns-11 c =
     let k = c .match .rest in
-    (shape-unknown (c .before .args .byte) (k .0 .0 .0 .0 .0 .0 .0 .0 .1) (k .0 .0 .0 .0 .0 .0 .0 .1) (k .0 .0 .0 .0 .0 .0 .1) (k .0 .0 .0 .0 .0 .1) (k .0 .0 .0 .0 .1) (k .0 .0 .0 .1) (k .0 .0 .1) (k .0 .1) (k .1), omega arith)
+    (shape-unknown (c .before .args .byte) (k .0 .0 .0 .0 .0 .0 .0 .0 .0 .1) (k .0 .0 .0 .0 .0 .0 .0 .0 .1) (k .0 .0 .0 .0 .0 .0 .0 .1) (k .0 .0 .0 .0 .0 .0 .1) (k .0 .0 .0 .0 .0 .1) (k .0 .0 .0 .0 .1) (k .0 .0 .0 .1) (k .0 .0 .1) (k .0 .1) (k .1), omega arith)
 
 pub shape-of-spec : {M : Type 1} → statement M
 shape-of-spec =
@@ -87,6 +94,7 @@ shape-of-spec =
     row-requires-7
     row-requires-8
     row-requires-9
+    row-requires-10
     returns
     returns-2
     returns-3
@@ -96,4 +104,5 @@ shape-of-spec =
     returns-7
     returns-8
     returns-9
-    returns-10)
+    returns-10
+    returns-11)

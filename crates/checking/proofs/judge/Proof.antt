@@ -1,40 +1,48 @@
 -- `checking::judge` meets its contract: PC first; then each group beside its siblings; and the first triple only where one is not earned.
 -- Assumes nothing.
-use mathlib.Core.List.{List}
 use mathlib.Core.Bool.{So}
-use mathlib.Core.Path.{_≡_, subst}
+use mathlib.Core.List.{List, [], _∷_}
+use mathlib.Core.Path.{_∙_, _≡_, ap, subst, sym}
 use Prim.Native.Nat.{ℕ}
 use native.Mathlib.Omega.{arith}
 use borrow.Author.Needs.{needs}
 use lib.ListN.{getD}
 use Rattle.sets.specs.Species.{Below}
 use Rattle.trees.proofs.Agreement.{R-proper}
-use Rattle.trees.specs.Check.{R, differs, unsure}
+use Rattle.trees.specs.Check.{R, unsure}
 use Rattle.trees.specs.Trees.{Tree, under, wellFormed}
-use Rattle.trees.specs.Triplets.{Proper, Triplets}
+use Rattle.trees.specs.Triplets.{Proper}
 use Rattle.tables.proofs.Bytes.{entered-proper}
 use Rattle.tables.specs.Bytes.{entered}
-use Rattle.tables.specs.Find.{firstTriple}
-use Rattle.tables.specs.Index.{C}
 use Rattle.bodies.specs.Draws.{treeOf}
 use Rattle.groups.specs.Groups.{Candidate}
 use Rattle.masks.specs.Masks.{Masks}
 use Rattle.tables.specs.Finds.{Finds, Hit}
 use Rattle.tables.specs.declared.Found.{Found}
-use Rattle.checking.proofs.Judged.{candidate, formed, good-64, is-contradicted, is-earned, is-sure, is-unforced, nothing-differs, some-nodes, within}
+use Rattle.answers.proofs.Answered.{first-stop, then-nothing}
+use Rattle.answers.specs.Looks.{answered}
+use Rattle.answers.specs.declared.Look.{Look}
+use Rattle.answers.specs.declared.Look.the-variants.{Pass}
+use Rattle.checking.specs.Checks.{lookPC, lookPI}
+use Rattle.checking.specs.declared.Answer.{Answer}
+use Rattle.checking.specs.declared.Answer.the-variants.{Passes, Refused}
+use Rattle.checking.proofs.Judged.{candidate, formed, good-64, is-earned, is-sure, is-unforced, nothing-differs, some-nodes, within}
 use Rattle.checking.proofs.judge.Statement.{statement}
 use Rattle.checking.proofs.judge.Tie as tie
 
--- once PC was looked at
-module _ (c : tie.After-first-contradiction) where
+abbrev answer : Look → Answer
+answer k = answered (λ (a : Answer). a) Refused k Passes
+
+-- once the groups are there
+module _ (c : tie.After-meets2) where
   abbrev st : tie.Start
-  st = c .before .before .before .before .before .before .before .before .before
+  st = c .before .before .before .before .before .before .before .before
 
   abbrev n : ℕ
   n = st .args .n
 
-  abbrev E : Triplets
-  E = entered (st .args .t .now)
+  abbrev t : List ℕ
+  t = st .args .t .now
 
   abbrev body : List ℕ
   body = st .args .body .now
@@ -43,13 +51,13 @@ module _ (c : tie.After-first-contradiction) where
   T = treeOf body
 
   abbrev groups : List ℕ
-  groups = c .before .before .before .before .before .groups2 .last .1 .0
+  groups = c .before .before .before .before .groups2 .last .1 .0
 
   abbrev meets : List ℕ
-  meets = c .before .before .pairs .last .1 .1 .0
+  meets = c .before .pairs .last .1 .1 .0
 
   meant : Candidate n T (getD groups 0 0) meets
-  meant = candidate n body (st .pre .0) (st .pre .1) (st .pre .2) groups meets (c .before .before .before .before .before .groups2 .ensures) (c .before .before .pairs .ensures)
+  meant = candidate n body (st .pre .0) (st .pre .1) (st .pre .2) groups meets (c .before .before .before .before .groups2 .ensures) (c .before .pairs .ensures)
 
   well : So (wellFormed T)
   well = formed n body (st .pre .0) (st .pre .1) (st .pre .2)
@@ -57,16 +65,16 @@ module _ (c : tie.After-first-contradiction) where
   low : Below n (under T)
   low = within n body (st .pre .0) (st .pre .1) (st .pre .2)
 
-  found : Finds n (differs E T) (c .first-contradiction .result)
-  found = c .first-contradiction .ensures T meant
+looked : (c : tie.After-look-pc) → c .look-pc .result ≡ lookPC (n (c .before)) (t (c .before)) (T (c .before))
+looked c = c .look-pc .ensures (T (c .before)) (meant (c .before))
 
 -- nothing differs
 module _ (c : tie.After-enum-told) where
-  abbrev p : tie.After-first-contradiction
-  p = c .before .before
+  abbrev p : tie.After-meets2
+  p = c .before .before .before
 
-  none : firstTriple (n p) (differs (E p) (T p)) ≡ C (n p) 3
-  none = subst (λ (r : Found). Finds (n p) (differs (E p) (T p)) r) (c .enum-told .given .1) (found p)
+  none : lookPC (n p) (t p) (T p) ≡ Pass
+  none = sym (looked (c .before .before)) ∙ c .enum-told .given .1
 
 -- and what is entered on the triples that the tree resolves is in the masks
 module _ (c : tie.After-relate) where
@@ -76,11 +84,11 @@ module _ (c : tie.After-relate) where
   abbrev masks : List ℕ
   masks = c .relate .last .1 .1 .1 .1 .0
 
-  related : Masks (R (E (p q)) (T (p q))) masks
+  related : Masks (R (entered (t (p q))) (T (p q))) masks
   related = c .relate .ensures .1 (T (p q)) (meant (p q))
 
-  rp : Proper (R (E (p q)) (T (p q)))
-  rp = R-proper (E (p q)) (entered-proper (st (p q) .args .t .now)) (T (p q))
+  rp : Proper (R (entered (t (p q))) (T (p q)))
+  rp = R-proper (entered (t (p q))) (entered-proper (t (p q))) (T (p q))
 
 groups-requires : tie.Need-groups-requires
 groups-requires c κs =
@@ -98,21 +106,11 @@ pairs-requires c κs =
 array-read-whole : tie.Need-array-read-whole
 array-read-whole c = search needs
 
-first-contradiction-requires : tie.Need-first-contradiction-requires
-first-contradiction-requires c κs = search needs
+look-pc-requires : tie.Need-look-pc-requires
+look-pc-requires c κs = (st c .pre .0, (T c, meant c))
 
-enum-known-differs : tie.Need-enum-known-differs
-enum-known-differs c = search needs
-
--- the triple that was found
-differing : (c : tie.After-differs) → Hit (n (c .before .before)) (differs (E (c .before .before)) (T (c .before .before))) (c .differs .given .0 .0)
-differing c = let p = c .before .before in subst (λ (r : Found). Finds (n p) (differs (E p) (T p)) r) (c .differs .given .1) (found p)
-
-index-requires : tie.Need-index-requires
-index-requires c κs = let h = differing (c .before) in (h .low-mid, h .mid-high, omega (arith, h .high-below, st (c .before .before .before) .pre .0))
-
-byte-requires : tie.Need-byte-requires
-byte-requires c κs = let h = differing (c .before .before) in (h .low-mid, h .mid-high, omega (arith, h .high-below, st (c .before .before .before .before) .pre .0))
+enum-known-look : tie.Need-enum-known-look
+enum-known-look c = search needs
 
 enum-told : tie.Need-enum-told
 enum-told c = search needs
@@ -124,7 +122,7 @@ earned-requires : tie.Need-earned-requires
 earned-requires c κs =
     let x = p (q (c .before .before)) in (
       good-64 (n x) (body x) (st x .pre .0) (st x .pre .1) (st x .pre .2),
-      (x .before .before .before .before .before .groups2 .ensures, some-nodes (n x) (body x) (st x .pre .0) (st x .pre .1) (st x .pre .2)),
+      (x .before .before .before .before .groups2 .ensures, some-nodes (n x) (body x) (st x .pre .0) (st x .pre .1) (st x .pre .2)),
     )
 
 returns : tie.Need-returns
@@ -132,28 +130,28 @@ returns c =
     let e = c .before in
     let r = e .before .before .before in
     let x = p (q r) in
-    is-earned (n x) (st x .args .t .now) (T x) (well x) (low x) (none (q r)) (e .earned .ensures (R (E x) (T x)) (rp r) (related r) .0 (c .if1 .taken))
+    is-earned (n x) (t x) (T x) (well x) (low x) (none (q r)) (e .earned .ensures (R (entered (t x)) (T x)) (rp r) (related r) .0 (c .if1 .taken))
 
 -- after the search for a triplet that is not forced
 module _ (u : tie.After-first-unforced) where
   abbrev related-at : tie.After-relate
   related-at = u .before .before .before .before .before .before .before
 
-  searched : let x = p (q related-at) in Finds (n x) (unsure (E x) (n x) (T x)) (u .first-unforced .result)
+  searched : let x = p (q related-at) in Finds (n x) (unsure (entered (t x)) (n x) (T x)) (u .first-unforced .result)
   searched =
       let x = p (q related-at) in
-      u .first-unforced .ensures (E x) (T x) (record {
+      u .first-unforced .ensures (entered (t x)) (T x) (record {
         few = st x .pre .0;
-        proper = entered-proper (st x .args .t .now);
+        proper = entered-proper (t x);
         tree = meant x;
         masked = related related-at;
-        none = nothing-differs (n x) (st x .args .t .now) (T x) (well x) (low x) (none (q related-at));
+        none = nothing-differs (n x) (t x) (T x) (well x) (low x) (none (q related-at));
       })
 
-loose : (d : tie.After-loose) → let x = p (q (related-at (d .before .before))) in Hit (n x) (unsure (E x) (n x) (T x)) (d .loose .given .0 .0)
+loose : (d : tie.After-loose) → let x = p (q (related-at (d .before .before))) in Hit (n x) (unsure (entered (t x)) (n x) (T x)) (d .loose .given .0 .0)
 loose d =
     let x = p (q (related-at (d .before .before))) in
-    subst (λ (z : Found). Finds (n x) (unsure (E x) (n x) (T x)) z) (d .loose .given .1) (searched (d .before .before))
+    subst (λ (z : Found). Finds (n x) (unsure (entered (t x)) (n x) (T x)) z) (d .loose .given .1) (searched (d .before .before))
 
 first-unforced-requires : tie.Need-first-unforced-requires
 first-unforced-requires c κs = search needs
@@ -161,17 +159,17 @@ first-unforced-requires c κs = search needs
 enum-known-loose : tie.Need-enum-known-loose
 enum-known-loose c = search needs
 
-index-requires-2 : tie.Need-index-requires-2
-index-requires-2 c κs = let h = loose (c .before) in (h .low-mid, h .mid-high, omega (arith, h .high-below, st (p (q (related-at (c .before .before .before)))) .pre .0))
+index-requires : tie.Need-index-requires
+index-requires c κs = let h = loose (c .before) in (h .low-mid, h .mid-high, omega (arith, h .high-below, st (p (q (related-at (c .before .before .before)))) .pre .0))
 
 enum-told-2 : tie.Need-enum-told-2
 enum-told-2 c = search needs
 
 returns-2 : tie.Need-returns-2
 returns-2 c =
-    let d = c .before .before .before in
-    let p = d .before .before in
-    is-contradicted (n p) (st p .args .t .now) (T p) (well p) (low p) (d .differs .given .0 .0) (differing d) _ _ (c .before .index .ensures) (c .byte .ensures .is)
+    let k = c .before .before .before in
+    let p = k .before in
+    ap answer (sym (first-stop (lookPC (n p) (t p) (T p) ∷ []) (lookPI (n p) (t p) (T p) ∷ []) _ (then-nothing _ ∙ sym (looked k) ∙ c .before .look .given .1)))
 
 returns-3 : tie.Need-returns-3
 returns-3 c =
@@ -179,14 +177,14 @@ returns-3 c =
     let u = d .before .before in
     let r = related-at u in
     let x = p (q r) in
-    is-unforced (n x) (st x .args .t .now) (T x) (well x) (low x) (none (q r)) (d .loose .given .0 .0) (loose d) _ (c .index2 .ensures)
+    is-unforced (n x) (t x) (T x) (well x) (low x) (none (q r)) (d .loose .given .0 .0) (loose d) _ (c .index .ensures)
 
 returns-4 : tie.Need-returns-4
 returns-4 c =
     let u = c .before .before in
     let r = related-at u in
     let x = p (q r) in
-    is-sure (n x) (st x .args .t .now) (T x) (well x) (low x) (none (q r)) (subst (λ (z : Found). Finds (n x) (unsure (E x) (n x) (T x)) z) (c .enum-told2 .given .1) (searched u))
+    is-sure (n x) (t x) (T x) (well x) (low x) (none (q r)) (subst (λ (z : Found). Finds (n x) (unsure (entered (t x)) (n x) (T x)) z) (c .enum-told2 .given .1) (searched u))
 
 pub judge-spec : {M : Type 1} → statement M
 judge-spec =
@@ -195,17 +193,15 @@ judge-spec =
     groups-requires
     pairs-requires
     array-read-whole
-    first-contradiction-requires
-    enum-known-differs
-    index-requires
-    byte-requires
+    look-pc-requires
+    enum-known-look
     enum-told
     relate-requires
     earned-requires
     returns
     first-unforced-requires
     enum-known-loose
-    index-requires-2
+    index-requires
     enum-told-2
     returns-2
     returns-3

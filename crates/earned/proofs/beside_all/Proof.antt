@@ -1,7 +1,7 @@
 -- `earned::beside_all` meets its contract. The loop's invariant: node i's group is joined beside that of each sibling before j. Assumes nothing.
 use mathlib.Core.Bool.{false≢true}
 use mathlib.Core.Logic.{⊎-elim}
-use mathlib.Core.Path.{_∙_, refl, sym}
+use mathlib.Core.Path.{_∙_, sym}
 use Prim.Native.Nat.{_-_, _<_, ℕ}
 use native.Mathlib.Omega.{arith}
 use borrow.Author.Count.{below-more}
@@ -61,14 +61,19 @@ returns c =
     let t = b .before .before .before .before in
     let l = t .before .before in
     let s = l .before .before .before .before .before in
-    λ E pr m. (
-      λ e. absurd (false≢true e),
-      λ all.
-          let k = all (l .before .loop .j) (l .before .loop .inv .0) (node l) (λ e. omega (arith, e, t .before .if1 .taken))
-          (sym (t .parent2 .ensures) ∙ eqb-true _ _ (b .before .before .before .if2 .taken) ∙ l .before .before .parent .ensures) in
-          let e = group-told _ (s .pre .0) _ (s .pre .1 .0) E (b .beside .result) _ _ (s .pre .1 .1 .0) (node l) (b .beside .ensures E pr m) .1 k in
-          absurd (false≢true (sym (not-true (b .beside .result) (c .if3 .taken)) ∙ e)),
-    )
+    λ E pr m. record {
+      joined = λ e. absurd (false≢true e);
+      apart = λ _. record {
+        sibling = l .before .loop .j;
+        later = l .before .loop .inv .0;
+        within = node l;
+        other = λ e. omega (arith, e, t .before .if1 .taken);
+        parent = sym (t .parent2 .ensures) ∙ eqb-true _ _ (b .before .before .before .if2 .taken) ∙ l .before .before .parent .ensures;
+        split = λ k.
+            let e = group-told _ (s .pre .0) _ (s .pre .1 .0) E (b .beside .result) _ _ (s .pre .1 .1 .0) (node l) (b .beside .ensures E pr m) .1 k in
+            false≢true (sym (not-true (b .beside .result) (c .if3 .taken)) ∙ e);
+      };
+    }
 
 add-j : tie.Need-add-j Inv-loop μ-loop
 add-j c = search needs
@@ -92,7 +97,10 @@ loop-again c =
 returns-2 : tie.Need-returns-2 Inv-loop μ-loop
 returns-2 c =
     let l = c .before in
-    λ E pr m. (λ _ j p q. l .loop .inv .1 E pr m j (omega (arith, c .loop-test .left, l .before .before .node-count .ensures)) p q, λ _. refl)
+    λ E pr m. record {
+      joined = λ _ j p q. l .loop .inv .1 E pr m j (omega (arith, c .loop-test .left, l .before .before .node-count .ensures)) p q;
+      apart = λ e. absurd (false≢true (sym e));
+    }
 
 pub beside-all-spec : {M : Type 1} → statement M
 beside-all-spec =

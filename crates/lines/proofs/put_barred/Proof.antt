@@ -1,41 +1,14 @@
--- The reply, the bar, the bytes, and the end of the line. Assumes nothing.
-use native.Mathlib.Omega.{arith}
+-- The answer with the bytes, and the end of the line. Assumes nothing.
 use borrow.Author.Needs.{needs}
-use Rattle.replies.specs.Replied.{replied}
-use Rattle.writing.proofs.Writing.{writes-as, writes-both}
-use Rattle.lines.proofs.Lengths.{reply-few}
-use Rattle.lines.proofs.Lines.{barred-whole}
-use Rattle.lines.specs.Lines.{plainText}
+use Rattle.writing.proofs.Writing.{writes-both}
 use Rattle.lines.proofs.put_barred.Statement.{statement}
 use Rattle.lines.proofs.put_barred.Tie as tie
 
-put-reply-requires : tie.Need-put-reply-requires
-put-reply-requires c κs = search needs
-
-slice-aggregate-put-word : tie.Need-slice-aggregate-put-word
-slice-aggregate-put-word c = search needs
-
-put-word-requires : tie.Need-put-word-requires
-put-word-requires c κs =
-    let a = c .before .before .before .before in
-    let s = a .before .before .before .before in
-    omega (arith, reply-few (s .args .s), a .put-reply .ensures .next, a .put-reply .ensures .kept, s .pre)
-
-put-bytes-requires : tie.Need-put-bytes-requires
-put-bytes-requires c κs =
-    let b = c .before .before .before in
-    let a = b .before .before .before .before .before in
-    let s = a .before .before .before .before in
-    omega (arith, reply-few (s .args .s), a .put-reply .ensures .next, a .put-reply .ensures .kept, b .put-word .ensures .next, b .put-word .ensures .kept, s .pre)
+put-lent-requires : tie.Need-put-lent-requires
+put-lent-requires c κs = search needs
 
 put-requires : tie.Need-put-requires
-put-requires c κs =
-    let d = c .before .before .before in
-    let b = d .before .before .before .before in
-    let a = b .before .before .before .before .before in
-    let s = a .before .before .before .before in
-    omega
-    (arith, reply-few (s .args .s), a .put-reply .ensures .next, a .put-reply .ensures .kept, b .put-word .ensures .next, b .put-word .ensures .kept, d .put-bytes .ensures .1, d .put-bytes .ensures .0 .kept, s .pre)
+put-requires c κs = search needs
 
 same-length : tie.Need-same-length
 same-length c = search needs
@@ -43,21 +16,8 @@ same-length c = search needs
 returns : tie.Need-returns
 returns c =
     let z = c .before .before in
-    let d = z .before .before .before .before in
-    let b = d .before .before .before .before in
-    let a = b .before .before .before .before .before in
-    let s = a .before .before .before .before .args in
-    writes-as _ _ _ _ _ _ (barred-whole (plainText (replied (s .s))) (s .l .now))
-    (writes-both _ _ _ _ _ _ _ _ (writes-both _ _ _ _ _ _ _ _ (writes-both _ _ _ _ _ _ _ _ (a .put-reply .ensures) (b .put-word .ensures)) (d .put-bytes .ensures .0)) (z .put .ensures))
+    let a = z .before .before .before .before in
+    writes-both _ _ _ _ _ _ _ _ (a .put-lent .ensures .0) (z .put .ensures)
 
 pub put-barred-spec : {M : Type 1} → statement M
-put-barred-spec =
-    tie.close
-    (tie.spec
-    put-reply-requires
-    slice-aggregate-put-word
-    put-word-requires
-    put-bytes-requires
-    put-requires
-    same-length
-    returns)
+put-barred-spec = tie.close (tie.spec put-lent-requires put-requires same-length returns)

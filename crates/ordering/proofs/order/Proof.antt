@@ -74,15 +74,8 @@ returns-2 c =
     let x = c .before .before .before in
     is-refused ShortRoom (first-on (early x) (late x) (passed (c .before)) ∙ rw (lt-ltb (length (room x)) (length (body x)) (c .if1 .taken)) refl)
 
-groups-requires : tie.Need-groups-requires
-groups-requires c κs = let r = ready (c .before .before) in (r .good, (r .few, search needs))
-
-put-requires : tie.Need-put-requires
-put-requires c κs =
-    let g = c .before .before in
-    let e = g .before .before in
-    let r = ready (e .before) in
-    (r .good, (g .groups2 .ensures, ((r .some, r .few), (omega (arith, r .tree, r .few), omega (arith, r .tree, r .whole, e .if1 .left)))))
+arrange-requires : tie.Need-arrange-requires
+arrange-requires c κs = let e = c .before in let r = ready (e .before) in (r .good, ((r .some, r .few), omega (arith, r .whole, e .if1 .left)))
 
 same-length : tie.Need-same-length
 same-length c = search needs
@@ -90,10 +83,10 @@ same-length c = search needs
 returns-3 : tie.Need-returns-3
 returns-3 c =
     let p = c .before .before in
-    let e = p .before .before .before .before .before in
+    let e = p .before .before in
     let x = e .before .before .before in
     is-done (first-on (early x) (late x) (passed (e .before)) ∙ rw (le-ltb (length (room x)) (length (body x)) (e .if1 .left)) refl)
-    (ap (λ (k : ℕ). record { nodes = k }) (omega (arith, p .put .ensures .0, ready (e .before) .tree))) (p .put .ensures .1)
+    (ap (λ (k : ℕ). record { nodes = k }) (p .arrange .ensures .0)) (p .arrange .ensures .1)
 
 pub order-spec : {M : Type 1} → statement M
 order-spec =
@@ -106,7 +99,6 @@ order-spec =
     enum-known-look
     returns
     returns-2
-    groups-requires
-    put-requires
+    arrange-requires
     same-length
     returns-3)

@@ -8,11 +8,11 @@ use Rattle.trial.proofs.answer.Statement.{statement}
 use Rattle.trial.proofs.answer.Tie as tie
 
 abbrev Inv-loop : tie.InvT-loop
-Inv-loop buffer₀ first₀ second₀ records₀ out₀ left₀ len₀ calls₀ buffer first second records out left len calls =
-    InBuffer left buffer × (len ≤ length out) × (length buffer ≡ length buffer₀) × (length first ≡ length first₀) × (length second ≡ length second₀) × (length records ≡ length records₀) × (length out ≡ length out₀)
+Inv-loop buffer₀ first₀ second₀ third₀ fourth₀ records₀ list₀ out₀ left₀ len₀ calls₀ buffer first second third fourth records list out left len calls =
+    InBuffer left buffer × (len ≤ length out) × (length buffer ≡ length buffer₀) × (length first ≡ length first₀) × (length second ≡ length second₀) × (length third ≡ length third₀) × (length fourth ≡ length fourth₀) × (length records ≡ length records₀) × (length list ≡ length list₀) × (length out ≡ length out₀)
 
 abbrev μ-loop : tie.MeasureT-loop
-μ-loop buffer₀ first₀ second₀ records₀ out₀ left₀ len₀ calls₀ buffer first second records out left len calls =
+μ-loop buffer₀ first₀ second₀ third₀ fourth₀ records₀ list₀ out₀ left₀ len₀ calls₀ buffer first second third fourth records list out left len calls =
     calls
 
 begin-requires : tie.Need-begin-requires Inv-loop μ-loop
@@ -48,6 +48,15 @@ same-length-4 c = search needs
 same-length-5 : tie.Need-same-length-5 Inv-loop μ-loop
 same-length-5 c = search needs
 
+same-length-6 : tie.Need-same-length-6 Inv-loop μ-loop
+same-length-6 c = search needs
+
+same-length-7 : tie.Need-same-length-7 Inv-loop μ-loop
+same-length-7 c = search needs
+
+same-length-8 : tie.Need-same-length-8 Inv-loop μ-loop
+same-length-8 c = search needs
+
 returns : tie.Need-returns Inv-loop μ-loop
 returns c = search needs
 
@@ -68,4 +77,7 @@ answer-spec =
     same-length-3
     same-length-4
     same-length-5
+    same-length-6
+    same-length-7
+    same-length-8
     returns)

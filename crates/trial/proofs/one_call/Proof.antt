@@ -1,5 +1,7 @@
 -- The call was read, and its line stands behind what waits. Assumes nothing.
+use native.Mathlib.Omega.{arith}
 use borrow.Author.Needs.{needs}
+use Rattle.calls.specs.Calls.{fieldsOf}
 use Rattle.trial.proofs.Made.{one-call}
 use Rattle.trial.proofs.one_call.Statement.{statement}
 use Rattle.trial.proofs.one_call.Tie as tie
@@ -8,7 +10,12 @@ read-call-requires : tie.Need-read-call-requires
 read-call-requires c κs = search needs
 
 make-requires : tie.Need-make-requires
-make-requires c κs = search needs
+make-requires c κs =
+    let k = c .before .before .before .before .before .before .before .before .before .before .before .before .before .before .before .before .before .before in
+    let s = k .before .before .before .before .before .before .before .before .before .before .before .before .before in
+    let l = k .read-call .kept .1 .1 in
+    let i = k .read-call .ensures .1 in
+    (omega (arith, i, l, s .pre), omega (arith, l, s .pre))
 
 same-length : tie.Need-same-length
 same-length c = search needs
@@ -25,11 +32,21 @@ same-length-4 c = search needs
 same-length-5 : tie.Need-same-length-5
 same-length-5 c = search needs
 
+same-length-6 : tie.Need-same-length-6
+same-length-6 c = search needs
+
+same-length-7 : tie.Need-same-length-7
+same-length-7 c = search needs
+
+same-length-8 : tie.Need-same-length-8
+same-length-8 c = search needs
+
 returns : tie.Need-returns
 returns c =
-    let k = c .before .before .before .before .before .before .before .before .before .before .before .before .before .before .before .before .before .read-call in
-    let m = c .before .before .before .before .before .make in
-    (one-call (k .result) (k .last .1 .1 .0) (k .last .1 .1 .1 .0) (k .ensures .0) (m .ensures), (k .ensures .0 .bytes .inside, m .ensures .writes .inside))
+    let m = c .before .before .before .before .before .before .before .before .before .make in
+    let k = c .before .before .before .before .before .before .before .before .before .before .before .before .before .before .before .before .before .before .before .before .before .before .before .before .before .before .before .before .read-call in
+    let l = k .last .1 .1 in
+    (one-call (k .result) (fieldsOf (k .result) (l .0) (l .1 .0) (l .1 .1 .0) (l .1 .1 .1 .0)) (k .ensures .0) (m .ensures), (k .ensures .0 .bytes .inside, m .ensures .writes .inside))
 
 pub one-call-spec : {M : Type 1} → statement M
 one-call-spec =
@@ -42,4 +59,7 @@ one-call-spec =
     same-length-3
     same-length-4
     same-length-5
+    same-length-6
+    same-length-7
+    same-length-8
     returns)

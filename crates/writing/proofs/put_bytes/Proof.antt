@@ -1,13 +1,11 @@
 -- What was written are the first of the bytes, four at most for each. Assumes nothing.
-use mathlib.Core.Path.{ap}
 use Prim.Native.Nat.{_+_, _*_, _-_, _≤_}
 use native.Mathlib.Omega.{arith}
 use borrow.Author.Needs.{needs}
 use lib.ListN.{getD, length, take}
-use lib.Seq.{take-all}
 use Rattle.writing.proofs.Digits.{byte-few}
-use Rattle.writing.proofs.Spaced.{spaced-next}
-use Rattle.writing.proofs.Writing.{front-more, writes-as, writes-both, writes-nothing}
+use Rattle.writing.proofs.Spaced.{spaced-all, spaced-front}
+use Rattle.writing.proofs.Writing.{writes-both, writes-nothing}
 use Rattle.writing.specs.Texts.{decimal, spaced}
 use Rattle.writing.specs.Writes.{Writes}
 use Rattle.writing.proofs.put_bytes.Statement.{statement}
@@ -64,11 +62,9 @@ loop-again c =
     let p = d .before .before .before .before .before in
     let n = p .before .before in
     let x = n .before in
-    let l = begun x .args .l .now in
     let v = x .loop .inv in
-    let e = ap spaced (front-more l (x .loop .i) (n .loop-test .taken)) in
     let w = writes-both _ _ _ _ _ _ _ _ (p .put .ensures) (d .put-decimal .ensures) in
-    (omega arith, omega (arith, few (d .before), d .put-decimal .ensures .next, p .put .ensures .next, v .1), writes-as _ _ _ _ _ _ e (spaced-next _ _ (take (x .loop .i) l) _ _ _ _ _ (v .2) w))
+    (omega arith, omega (arith, few (d .before), d .put-decimal .ensures .next, p .put .ensures .next, v .1), spaced-front _ _ (begun x .args .l .now) (x .loop .i) _ _ _ _ (n .loop-test .taken) (v .2) w)
 
 same-length : tie.Need-same-length Inv-loop μ-loop
 same-length c = c .before .loop .inv .2 .kept
@@ -76,8 +72,7 @@ same-length c = c .before .loop .inv .2 .kept
 returns : tie.Need-returns Inv-loop μ-loop
 returns c =
     let x = c .before in
-    let e = ap spaced (take-all (x .loop .i) (begun x .args .l .now) (c .loop-test .left)) in
-    (writes-as _ _ _ _ _ _ e (x .loop .inv .2), omega (arith, x .loop .inv .0, x .loop .inv .1))
+    (spaced-all _ _ (begun x .args .l .now) (x .loop .i) _ _ (c .loop-test .left) (x .loop .inv .2), omega (arith, x .loop .inv .0, x .loop .inv .1))
 
 pub put-bytes-spec : {M : Type 1} → statement M
 put-bytes-spec =

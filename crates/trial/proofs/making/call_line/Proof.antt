@@ -28,6 +28,9 @@ parse-line-requires c κs = search needs
 render-line-requires : tie.Need-render-line-requires
 render-line-requires c κs = search needs
 
+loosen-line-requires : tie.Need-loosen-line-requires
+loosen-line-requires c κs = search needs
+
 check-line-requires : tie.Need-check-line-requires
 check-line-requires c κs = search needs
 
@@ -36,8 +39,9 @@ same-length c = search needs
 
 returns : tie.Need-returns
 returns c =
-    let s = c .before .before .before .before .before .before .before .before in
-    line-same _ 114 (s .args .n) (s .args .m) (s .args .first .now) (s .args .second .now) (c .before .before .before .before .match .keys1) (c .before .before .read-line .ensures)
+    let m = c .before .before .before .before in
+    let s = m .before .before .before .before .before .before .before in
+    line-same _ 114 (s .args .n) (s .args .m) (s .args .first .now) (s .args .second .now) (s .args .third .now) (s .args .fourth .now) (m .match .keys1) (c .before .before .read-line .ensures)
 
 same-length-2 : tie.Need-same-length-2
 same-length-2 c = search needs
@@ -47,8 +51,9 @@ same-length-3 c = search needs
 
 returns-2 : tie.Need-returns-2
 returns-2 c =
-    let s = c .before .before .before .before .before .before .before .before .before .before .before in
-    line-same _ 108 (s .args .n) (s .args .m) (s .args .first .now) (s .args .second .now) (c .before .before .before .before .before .before .before .match .keys2) (c .before .before .before .before .list-line .ensures .0)
+    let m = c .before .before .before .before .before .before .before in
+    let s = m .before .before .before .before .before .before .before in
+    line-same _ 108 (s .args .n) (s .args .m) (s .args .first .now) (s .args .second .now) (s .args .third .now) (s .args .fourth .now) (m .match .keys2) (c .before .before .before .before .list-line .ensures .0)
 
 same-length-4 : tie.Need-same-length-4
 same-length-4 c = search needs
@@ -61,8 +66,9 @@ same-length-6 c = search needs
 
 returns-3 : tie.Need-returns-3
 returns-3 c =
-    let s = c .before .before .before .before .before .before .before .before .before .before .before .before .before in
-    line-same _ 101 (s .args .n) (s .args .m) (s .args .first .now) (s .args .second .now) (c .before .before .before .before .before .before .before .before .before .match .keys3) (c .before .before .before .before .before .enter-line .ensures)
+    let m = c .before .before .before .before .before .before .before .before .before in
+    let s = m .before .before .before .before .before .before .before in
+    line-same _ 101 (s .args .n) (s .args .m) (s .args .first .now) (s .args .second .now) (s .args .third .now) (s .args .fourth .now) (m .match .keys3) (c .before .before .before .before .before .enter-line .ensures)
 
 same-length-7 : tie.Need-same-length-7
 same-length-7 c = search needs
@@ -72,8 +78,9 @@ same-length-8 c = search needs
 
 returns-4 : tie.Need-returns-4
 returns-4 c =
-    let s = c .before .before .before .before .before .before .before .before .before .before .before in
-    line-same _ 111 (s .args .n) (s .args .m) (s .args .first .now) (s .args .second .now) (c .before .before .before .before .before .before .before .match .keys4) (c .before .before .before .before .order-line .ensures .0)
+    let m = c .before .before .before .before .before .before .before in
+    let s = m .before .before .before .before .before .before .before in
+    line-same _ 111 (s .args .n) (s .args .m) (s .args .first .now) (s .args .second .now) (s .args .third .now) (s .args .fourth .now) (m .match .keys4) (c .before .before .before .before .order-line .ensures .0)
 
 same-length-9 : tie.Need-same-length-9
 same-length-9 c = search needs
@@ -83,8 +90,9 @@ same-length-10 c = search needs
 
 returns-5 : tie.Need-returns-5
 returns-5 c =
-    let s = c .before .before .before .before .before .before .before .before .before .before .before in
-    line-same _ 98 (s .args .n) (s .args .m) (s .args .first .now) (s .args .second .now) (c .before .before .before .before .before .before .before .match .keys5) (c .before .before .before .before .build-line .ensures .0)
+    let m = c .before .before .before .before .before .before .before in
+    let s = m .before .before .before .before .before .before .before in
+    line-same _ 98 (s .args .n) (s .args .m) (s .args .first .now) (s .args .second .now) (s .args .third .now) (s .args .fourth .now) (m .match .keys5) (c .before .before .before .before .build-line .ensures .0)
 
 same-length-11 : tie.Need-same-length-11
 same-length-11 c = search needs
@@ -94,8 +102,9 @@ same-length-12 c = search needs
 
 returns-6 : tie.Need-returns-6
 returns-6 c =
-    let s = c .before .before .before .before .before .before .before .before .before .before .before in
-    line-same _ 118 (s .args .n) (s .args .m) (s .args .first .now) (s .args .second .now) (c .before .before .before .before .before .before .before .match .keys6) (c .before .before .before .before .veto-line .ensures .0)
+    let m = c .before .before .before .before .before .before .before in
+    let s = m .before .before .before .before .before .before .before in
+    line-same _ 118 (s .args .n) (s .args .m) (s .args .first .now) (s .args .second .now) (s .args .third .now) (s .args .fourth .now) (m .match .keys6) (c .before .before .before .before .veto-line .ensures .0)
 
 same-length-13 : tie.Need-same-length-13
 same-length-13 c = search needs
@@ -105,8 +114,9 @@ same-length-14 c = search needs
 
 returns-7 : tie.Need-returns-7
 returns-7 c =
-    let s = c .before .before .before .before .before .before .before .before .before .before .before in
-    line-same _ 110 (s .args .n) (s .args .m) (s .args .first .now) (s .args .second .now) (c .before .before .before .before .before .before .before .match .keys7) (c .before .before .before .before .parse-line .ensures .0)
+    let m = c .before .before .before .before .before .before .before in
+    let s = m .before .before .before .before .before .before .before in
+    line-same _ 110 (s .args .n) (s .args .m) (s .args .first .now) (s .args .second .now) (s .args .third .now) (s .args .fourth .now) (m .match .keys7) (c .before .before .before .before .parse-line .ensures .0)
 
 same-length-15 : tie.Need-same-length-15
 same-length-15 c = search needs
@@ -116,8 +126,9 @@ same-length-16 c = search needs
 
 returns-8 : tie.Need-returns-8
 returns-8 c =
-    let s = c .before .before .before .before .before .before .before .before .before .before .before in
-    line-same _ 119 (s .args .n) (s .args .m) (s .args .first .now) (s .args .second .now) (c .before .before .before .before .before .before .before .match .keys8) (c .before .before .before .before .render-line .ensures .0)
+    let m = c .before .before .before .before .before .before .before in
+    let s = m .before .before .before .before .before .before .before in
+    line-same _ 119 (s .args .n) (s .args .m) (s .args .first .now) (s .args .second .now) (s .args .third .now) (s .args .fourth .now) (m .match .keys8) (c .before .before .before .before .render-line .ensures .0)
 
 same-length-17 : tie.Need-same-length-17
 same-length-17 c = search needs
@@ -125,11 +136,30 @@ same-length-17 c = search needs
 same-length-18 : tie.Need-same-length-18
 same-length-18 c = search needs
 
+same-length-19 : tie.Need-same-length-19
+same-length-19 c = search needs
+
+same-length-20 : tie.Need-same-length-20
+same-length-20 c = search needs
+
 returns-9 : tie.Need-returns-9
 returns-9 c =
-    let s = c .before .before .before .before .before .before .before .before .before in
-    let k = c .before .before .before .before .before .match .rest in
-    line-check (s .args .byte) (s .args .n) (s .args .m) (s .args .first .now) (s .args .second .now) (k .0 .0 .0 .0 .0 .0 .0 .1) (k .0 .0 .0 .0 .0 .0 .1) (k .0 .0 .0 .0 .0 .1) (k .0 .0 .0 .0 .1) (k .0 .0 .0 .1) (k .0 .0 .1) (k .0 .1) (k .1) (c .before .before .check-line .ensures)
+    let m = c .before .before .before .before .before .before .before .before .before .before .before in
+    let s = m .before .before .before .before .before .before .before in
+    line-same _ 120 (s .args .n) (s .args .m) (s .args .first .now) (s .args .second .now) (s .args .third .now) (s .args .fourth .now) (m .match .keys9) (c .before .before .before .before .before .before .loosen-line .ensures)
+
+same-length-21 : tie.Need-same-length-21
+same-length-21 c = search needs
+
+same-length-22 : tie.Need-same-length-22
+same-length-22 c = search needs
+
+returns-10 : tie.Need-returns-10
+returns-10 c =
+    let m = c .before .before .before .before .before in
+    let s = m .before .before .before .before .before .before .before in
+    let k = m .match .rest in
+    line-check (s .args .byte) (s .args .n) (s .args .m) (s .args .first .now) (s .args .second .now) (s .args .third .now) (s .args .fourth .now) (k .0 .0 .0 .0 .0 .0 .0 .0 .1) (k .0 .0 .0 .0 .0 .0 .0 .1) (k .0 .0 .0 .0 .0 .0 .1) (k .0 .0 .0 .0 .0 .1) (k .0 .0 .0 .0 .1) (k .0 .0 .0 .1) (k .0 .0 .1) (k .0 .1) (k .1) (c .before .before .check-line .ensures)
 
 pub call-line-spec : {M : Type 1} → statement M
 call-line-spec =
@@ -143,6 +173,7 @@ call-line-spec =
     veto-line-requires
     parse-line-requires
     render-line-requires
+    loosen-line-requires
     check-line-requires
     same-length
     returns
@@ -170,4 +201,9 @@ call-line-spec =
     returns-8
     same-length-17
     same-length-18
-    returns-9)
+    same-length-19
+    same-length-20
+    returns-9
+    same-length-21
+    same-length-22
+    returns-10)

@@ -1,29 +1,22 @@
 -- The records up to i are laid out. Assumes nothing.
-use mathlib.Core.List.{List}
 use mathlib.Core.Path.{_∙_, _≡_, ap, refl}
-use Prim.Native.Nat.{ℕ, _+_, _-_, _<_, _≤_, _/_}
-use native.Mathlib.Numerals.{add-one}
+use Prim.Native.Nat.{_+_, _-_, _≤_, _/_}
 use native.Mathlib.Omega.{arith}
 use borrow.Author.Needs.{needs}
 use lib.ListN.{length, length-set, set, take}
-use lib.Seq.{take-suc-set}
-use Rattle.trial.specs.Records.{recordAt, recordsUpTo}
+use Rattle.trial.specs.Records.{recordAt, itemsUpTo}
+use Rattle.trial.proofs.Items.{items-more}
 use Rattle.trial.proofs.making.gather.Statement.{statement}
 use Rattle.trial.proofs.making.gather.Tie as tie
 
 abbrev Inv-loop : tie.InvT-loop
-Inv-loop b records₀ m i₀ records i = (length records ≡ length records₀) × (i ≤ m) × (take i records ≡ recordsUpTo b i)
+Inv-loop b records₀ m i₀ records i = (length records ≡ length records₀) × (i ≤ m) × (take i records ≡ itemsUpTo (recordAt b) i)
 
 abbrev μ-loop : tie.MeasureT-loop
 μ-loop b records₀ m i₀ records i = m - i
 
--- one record more
-more : (b : List ℕ) (rs : List (List ℕ)) (i : ℕ) → i < length rs → take i rs ≡ recordsUpTo b i → take (i + 1) (set rs i (recordAt b i)) ≡ recordsUpTo b (i + 1)
-unfolding recordsUpTo
-more b rs i h e = rw (add-one, take-suc-set, e)
-
 loop-holds : tie.Need-loop-holds Inv-loop μ-loop
-unfolding recordsUpTo
+unfolding itemsUpTo
 loop-holds c = (refl, omega arith, refl)
 
 record-requires : tie.Need-record-requires Inv-loop μ-loop
@@ -46,7 +39,7 @@ loop-again c =
     let x = c .before .before in
     let v = x .loop .inv in
     let b = x .before .before .args .b .now in
-    (simp length-set (v .0), omega arith, ap (λ r. take (x .loop .i + 1) (set (x .loop .records) (x .loop .i) r)) (c .«record» .ensures) ∙ more b (x .loop .records) (x .loop .i) (omega arith) (v .2))
+    (simp length-set (v .0), omega arith, ap (λ r. take (x .loop .i + 1) (set (x .loop .records) (x .loop .i) r)) (c .«record» .ensures) ∙ items-more (recordAt b) (x .loop .records) (x .loop .i) (omega arith) (v .2))
 
 same-length : tie.Need-same-length Inv-loop μ-loop
 same-length c = search needs
