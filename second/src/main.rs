@@ -7,6 +7,7 @@ mod compare;
 mod entered;
 mod exhaustive;
 mod grammar;
+mod induced;
 mod inputs;
 mod limits;
 mod loosening;
@@ -168,6 +169,7 @@ fn compare_all(programs: Programs, calls: u64, seed: u64, texts: usize) -> ExitC
         c.runs(Program::Shelf, &collections::cases(seed));
     });
     part(&mut comparison, "all tables, sets and candidates up to n = 4", |c| {
+        induced::tell();
         c.calls(exhaustive::exhaustive);
     });
     part(&mut comparison, "tables with fans", |c| {

@@ -1,6 +1,6 @@
 //! Runs by name, each with its outcome written out by hand: those of document 01, worked examples of
 //! its source papers, Newick texts, read and written (document 02, T-01 and T-02), sets that occur (T-03), fans in
-//! tables (T-05), builds with a veto (T-06), and trees that are loosened (T-07).
+//! tables (T-05), builds with a veto (T-06), trees that are loosened (T-07), and the check in the papers' own words (T-08).
 
 use crate::calls::Call;
 use crate::compare::{shown, split, Comparison};
@@ -851,6 +851,91 @@ fn loosening_refused(runs: &mut Runs) {
     runs.call("loosen ((0,1),2), what stands behind", call(room, list), &line);
 }
 
+/// Checks that tell the papers' PC and PI from others, with the papers' words; their letters are in order from 0.
+fn own_words(runs: &mut Runs) {
+    let mut check = |n: usize, table: &[u8], tree: &str, line: &str| {
+        let name = format!("own words, n={n}, table {}, {tree}", table_name(table));
+        runs.check(&name, n, table, &body(tree), line);
+    };
+    // 000: "any tree displaying {AB|C,BC|D} also has to display the triplet AC|D"
+    let chain = [1, 0, 0, 1];
+    check(4, &chain, "(((0,1),2),3)", "0");
+    // R has only what is entered on triples that the tree resolves: nothing for the first two, then BC|D, then AB|C
+    check(4, &chain, "((0,2),3)", "12 2");
+    check(4, &chain, "((0,1),3)", "12 1");
+    check(4, &chain, "((0,1,2),3)", "12 1");
+    check(4, &chain, "((0,1),2,3)", "12 1");
+    check(4, &chain, "((0,1),(2,3))", "11 3 1");
+    check(4, &chain, "(((0,1),3),2)", "11 3 1");
+
+    // 004, Definition 4: R induces t when some R' in R "est compatible et R' ⊢ t". No tree holds 01|2 and 02|1; each of the
+    // two alone induces itself
+    check(4, &[3, 0, 0, 0], "(((0,1),2),3)", "11 0 3");
+    check(4, &[3, 0, 0, 0], "((0,1),2)", "11 0 3");
+    // 000: "PI_eq holds as soon as R(T,T) is incompatible". It holds in all of these, and the papers' PI in the last one only
+    check(3, &[3], "(0,(1,2))", "11 0 3");
+    check(3, &[6], "((0,1),2)", "11 0 6");
+    check(3, &[5], "((0,2),1)", "11 0 5");
+    check(3, &[7], "((0,2),1)", "11 0 7");
+    // no tree holds these either, and no triple is entered twice. PI_eq holds; no part of 01|2, 03|1 and 02|3 induces 12|0
+    check(4, &[1, 2, 1, 0], "(0,(1,2,3))", "11 0 1");
+    // 12|0 and 13|0 induce 23|0, and the papers' PI holds; 02|3 induces itself
+    check(4, &[4, 4, 1, 0], "(0,(1,2,3))", "11 2 1");
+    // 01|2 and 12|3 induce every triplet of the first tree; 03|1 induces itself
+    check(4, &[1, 2, 0, 1], "(((0,1),2),3)", "11 1 2");
+    check(4, &[1, 2, 0, 1], "(((0,3),1),2)", "11 3 1");
+    check(4, &[1, 2, 0, 1], "((0,(1,2)),3)", "11 0 1");
+    // a tree without a triplet: R is empty
+    check(4, &[7, 7, 7, 7], "(0,1,2,3)", "0");
+    // 02|3 and 23|1 induce 02|1 and 03|1, against the tree on the triples 0 and 1; what is named is 23|1 itself, at 3
+    check(4, &[0, 0, 1, 4], "(((0,1),2),3)", "11 3 4");
+
+    // 004, Fig. 1: "T vérifie PI et PC, mais pas PC' ({ae|b, ac|e} ⊢ ac|b)". PC' is of all that is entered, and PC of R
+    check(4, &[1, 2, 1, 0], "((0,1),2)", "0");
+    check(4, &[0, 2, 1, 0], "((0,1),2)", "12 0");
+    check(4, &[0, 2, 1, 0], "((0,2),1)", "12 0");
+    check(4, &[0, 2, 1, 0], "(((0,2),3),1)", "0");
+    check(4, &[1, 2, 1, 0], "(((0,2),3),1)", "11 0 1");
+    // the sources of that figure: every triple with e is resolved in two ways
+    let rogue = [1, 3, 3, 3];
+    check(4, &rogue, "((0,2),1)", "11 0 1");
+    check(4, &rogue, "(((0,1),2),3)", "11 1 3");
+    check(4, &rogue, "(((0,3),1),2)", "11 1 3");
+
+    // 000, Example 2: "{AB|X, BC|A} ⊢ {BC|X, AC|X}", and "here R(T,T) only contains the triplet AB|X and thus it does not
+    // induce the triplet AC|X present in T"
+    check(4, &[4, 1, 0, 0], "((0,(1,2)),3)", "0");
+    check(4, &[4, 1, 0, 0], "((0,1,2),3)", "12 2");
+    check(4, &[5, 1, 0, 0], "((0,1,2),3)", "12 2");
+    check(4, &[5, 1, 0, 0], "((0,1),3)", "0");
+    check(4, &[5, 1, 0, 0], "((0,2),3)", "12 2");
+    check(4, &[5, 1, 0, 0], "((0,(1,2)),3)", "11 0 5");
+
+    // 000: "AB|E and CD|E ... numerous supertrees are possible, e.g., ((A,C),(B,D),E)", as printed; with one group more it
+    // holds both
+    let apart = [0, 0, 0, 0, 1, 0, 0, 0, 0, 1];
+    check(5, &apart, "((0,2),(1,3),4)", "12 0");
+    check(5, &apart, "(((0,2),(1,3)),4)", "12 0");
+    check(5, &apart, "((0,1,2,3),4)", "12 5");
+    check(5, &apart, "((0,1),4)", "0");
+    check(5, &apart, "((2,3),4)", "0");
+
+    // 000, Example 3: "Triplets AB|C and EF|D are displayed by both trees". "Since rt(T) contains AB|D and AD|B, any tree T
+    // displaying a triplet for the three leaves does not satisfy PC"; "for similar reasons" none on A, C and D
+    let papers7 = [1, 3, 6, 6, 3, 6, 6, 3, 3, 3, 5, 6, 6, 3, 3, 3, 5, 6, 6, 4];
+    check(6, &papers7, "(3,(4,5))", "0");
+    for tree in ["((0,1),3)", "((0,3),1)", "(0,(1,3))"] {
+        check(6, &papers7, tree, "11 1 3");
+    }
+    for tree in ["((0,2),3)", "((0,3),2)", "(0,(2,3))"] {
+        check(6, &papers7, tree, "11 2 6");
+    }
+
+    // 000, Example 4: "the supertree ((A,B),(X,Y),W,Z)", as printed, contradicts YZ|X of its second source
+    let papers8 = [1, 1, 0, 0, 1, 0, 0, 4, 4, 0, 1, 0, 0, 4, 4, 0, 4, 4, 0, 4];
+    check(6, &papers8, "((0,1),(3,4),2,5)", "11 19 4");
+}
+
 /// Newick texts that are read: the body in the text's order.
 fn texts_read(runs: &mut Runs) {
     runs.parse(4, b"((0,1),2);", 5, "255 255 0 255 1 0 1 1 0 2", 2);
@@ -1043,6 +1128,7 @@ fn all_runs() -> Runs {
     vetoes(&mut runs);
     loosened(&mut runs);
     loosening_refused(&mut runs);
+    own_words(&mut runs);
     texts_read(&mut runs);
     texts_refused(&mut runs);
     texts_written(&mut runs);

@@ -1,7 +1,8 @@
-//! The ten operations (document 01, "Numbers handed back", and document 02, T-01 to T-03 and T-05 to T-07).
+//! The ten operations (document 01, "Numbers handed back", and document 02, T-01 to T-03 and T-05 to T-08).
 
 use crate::entered::{build_numbered_anew, some_tree_holds, Entered, Joined};
 use crate::grammar::{self, LONGEST_SEARCHED};
+use crate::induced::{self, Verdict};
 use crate::loosening::{coarser, loosened};
 use crate::newick;
 use crate::random::Random;
@@ -283,23 +284,45 @@ pub fn render(n: u64, body: &[u8], room: &mut [u8]) -> Result<usize, Refusal> {
 /// Checks a candidate against a table.
 pub fn check(n: u64, table: &[u8], body: &[u8]) -> Result<(), Refusal> {
     let (n, candidate) = checkable(n, table, body)?;
-    match not_forced(n, &candidate, &without_fans(table), 16) {
-        Some(triple) => Err(Refusal::NotForced { triple }),
-        None => Ok(()),
-    }
+    checked(n, &candidate, table, 16)
 }
 
-/// What the check refuses before PI. Returns n and the candidate, which passes PC.
+/// What the check refuses before PC. Returns n and the candidate.
 fn checkable(n: u64, table: &[u8], body: &[u8]) -> Result<(usize, Tree), Refusal> {
     let n = size(n)?;
     table_length(n, table)?;
     table_bytes(table)?;
     body_length(0, body.len())?;
-    let candidate = tree_of(0, n, body)?;
+    Ok((n, tree_of(0, n, body)?))
+}
+
+/// PC and then PI. Up to four species, the verdict has to be that of the paper's own words.
+fn checked(n: usize, candidate: &Tree, table: &[u8], builds_up_to: usize) -> Result<(), Refusal> {
+    let entered = without_fans(table);
+    let forced = |()| match not_forced(n, candidate, &entered, builds_up_to) {
+        Some(triple) => Err(Refusal::NotForced { triple }),
+        None => Ok(()),
+    };
+    let verdict = not_contradicted(n, candidate, table).and_then(forced);
+    if n <= induced::FEW {
+        let own = candidate.triplets(n);
+        let here = match verdict {
+            Ok(()) => Verdict::Both,
+            Err(Refusal::NotForced { triple }) => Verdict::NoPi(triple),
+            Err(_) => Verdict::NoPc,
+        };
+        let by_the_paper = induced::verdict(n, &own, &resolved(&own, &entered));
+        assert_eq!(here, by_the_paper, "the check, and the paper's own words");
+    }
+    verdict
+}
+
+/// PC, of a good candidate.
+fn not_contradicted(n: usize, candidate: &Tree, table: &[u8]) -> Result<(), Refusal> {
     let own = candidate.triplets(n);
     match contradicted(n, &own, &resolved(&own, &without_fans(table))) {
         Some(triple) => Err(Refusal::Contradicted { triple, byte: table[triple] }),
-        None => Ok((n, candidate)),
+        None => Ok(()),
     }
 }
 
@@ -344,6 +367,7 @@ pub const PLACES: usize = 62;
 /// in the lent list. Returns the node count, and how many were dropped.
 pub fn loosen(n: u64, table: &[u8], body: &[u8], room: &mut [u8], list: &mut [u64]) -> Result<(usize, usize), Refusal> {
     let (n, candidate) = checkable(n, table, body)?;
+    not_contradicted(n, &candidate, table)?;
     if room.len() < body.len() || list.len() < PLACES {
         return Err(Refusal::Room);
     }
@@ -368,10 +392,7 @@ fn look_over(n: usize, candidate: &Tree, entered: &[u8], tree: &Tree, dropped: &
 
     // the whole check
     if species <= 32 {
-        let passes = |tree: &Tree| {
-            let own = tree.triplets(n);
-            contradicted(n, &own, &resolved(&own, entered)).is_none() && not_forced(n, tree, entered, 6).is_none()
-        };
+        let passes = |tree: &Tree| checked(n, tree, entered, 6).is_ok();
         assert!(passes(tree), "the loosened tree passes the check");
         assert_eq!(passes(candidate), dropped.is_empty(), "what passed before is left as it is, and nothing else");
         if n <= 5 {

@@ -70,7 +70,7 @@ first-same n P Q i e f = record {
 }
 
 module _ (n : ℕ) (t : List ℕ) (T : Tree) (f : So (wellFormed T)) (bd : Below n (under T)) where
-  inside : Inside (under T) (below n)
+  pub inside : Inside (under T) (below n)
   inside x h = lt-ltb x n (bd x h)
 
   module _ (pc : PC (entered t) (below n) T) where
@@ -90,7 +90,7 @@ module _ (n : ℕ) (t : List ℕ) (T : Tree) (f : So (wellFormed T)) (bd : Below
               (λ k. or-r (P a b c) _ (⊎-elim (λ q. or-l (P a c b) _ (unsure-loose a c b .1 q)) (λ q. or-r (P a c b) _ (unsure-loose b c a .1 q)) k)) h,
         )
 
-    none-contradicts : (a b c : ℕ) → Contradicts (entered t) T a b c → ⊥
+    pub none-contradicts : (a b c : ℕ) → Contradicts (entered t) T a b c → ⊥
     none-contradicts a b c h =
         let d = pc-exactly (entered t) (entered-proper t) n (below n) (all-below n) T f inside .0 pc in
         or-case (differs (entered t) T a b c) _ h (d a b c) (λ k. or-case (differs (entered t) T a c b) (differs (entered t) T b c a) k (d a c b) (d b c a))
@@ -143,10 +143,10 @@ module _ (n : ℕ) (t b : List ℕ) (g : Checkable n t b) where
   some : 0 < nodes b .count
   some = length-good b (g .body .long) .0
 
-  formed : So (wellFormed (treeOf b))
+  pub formed : So (wellFormed (treeOf b))
   formed = tree-formed n (nodes b) (g .body .good) some
 
-  bd : Below n (under (treeOf b))
+  pub bd : Below n (under (treeOf b))
   bd = tree-below n (nodes b) (g .body .good) some
 
   pub good-checked : ChecksRight n t (below n) (treeOf b) (checks n t b)

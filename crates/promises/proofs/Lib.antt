@@ -25,6 +25,7 @@ pub mod Fewer
 pub mod Drops
 pub mod Loosened
 pub mod Finest
+pub mod Paper
 pub mod UselessLooseners
 pub mod Own
 pub mod Occurring

@@ -10,6 +10,7 @@ pub mod Together
 pub mod Veto
 pub mod Loosening
 pub mod Finest
+pub mod Paper
 pub mod Fans
 pub mod Useless
 pub mod UselessVetoes

@@ -1,2 +1,3 @@
 -- The runs hold.
 pub mod Hold
+pub mod Paper

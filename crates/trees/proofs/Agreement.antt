@@ -37,6 +37,10 @@ exclusive T w a b c h k =
     all X xa (cl a b c xa ua ub uc h) (cl a c b xa ua uc ub k) x hx)
     T w (all (under T) (o .in-a) (o .in-b) (o .in-c)) (λ x y z hx hy hz e. e)
 
+-- so what has two triplets on three species of S can be held by no tree
+pub two-not-held : (E : Triplets) (S : Species) (a b c : ℕ) → So (S a) → So (S b) → So (S c) → So (E a b c) → So (E a c b) → CanBeHeld E S → ⊥
+two-not-held E S a b c ha hb hc h h′ (t, k) = exclusive t (formed-e t (k .formed)) a b c (k .keeps a b c ha hb hc h) (k .keeps a c b ha hc hb h′)
+
 -- no entered triplet differs from what T holds
 abbrev pub Agrees : Triplets → Tree → Type 0
 Agrees E T = (a b c : ℕ) → So (R E T a b c) → So (holds T a b c)
@@ -64,15 +68,13 @@ module _ (E : Triplets) (pr : Proper E) (T : Tree) where
         (held-around E′ N p (under T) S bd sub (u .0) (u .1) (λ a b c ha hb hc. inn a b c), held-inside E′ N p S (under T) bd sub (u .0) (u .1))
 
     pub pc-agrees : PC E S T → Agrees E T
-    pc-agrees (t, k) a b c h =
-        let all : (x y z : ℕ) → So (under T x) × So (under T y) × So (under T z) → So (both (holds T) (R E T) x y z) → So (holds t x y z)
-        = λ x y z i q. k .keeps x y z (sub x (i .0)) (sub y (i .1)) (sub z (i .2)) q in
-        let new : (x y z : ℕ) → So (R E T x y z) → So (holds t x y z) = λ x y z q. all x y z (R-in x y z q) (or-r (holds T x y z) _ q) in
-        let old : (x y z : ℕ) → So (holds T x y z) → So (holds t x y z) = λ x y z q. let o = holds-e T x y z q in all x y z (o .in-a, o .in-b, o .in-c) (or-l (holds T x y z) _ q) in
-        let f = formed-e t (k .formed) in
+    pc-agrees pc a b c h =
+        let (ia, ib, ic) = R-in a b c h in
+        let new : (x y z : ℕ) → So (R E T x y z) → So (both (holds T) (R E T) x y z) = λ x y z q. or-r (holds T x y z) _ q in
+        let old : (x y z : ℕ) → So (holds T x y z) → So (both (holds T) (R E T) x y z) = λ x y z q. or-l (holds T x y z) _ q in
         or-case (holds T a b c) _ (and-r (E a b c) _ h) (λ q. q) (λ q. absurd (or-case (holds T a c b) (holds T b c a) q
-        (λ r. exclusive t f a b c (new a b c h) (old a c b r))
-        (λ r. exclusive t f b a c (new b a c (R-proper .swap a b c h)) (old b c a r))))
+        (λ r. two-not-held _ S a b c (sub a ia) (sub b ib) (sub c ic) (new a b c h) (old a c b r) pc)
+        (λ r. two-not-held _ S b a c (sub b ib) (sub a ia) (sub c ic) (new b a c (R-proper .swap a b c h)) (old b c a r) pc)))
 
     pub agrees-pc : Agrees E T → PC E S T
     agrees-pc ag = wider (both (holds T) (R E T)) (both-proper (holds T) (R E T) (holds-proper T) R-proper)

@@ -1,11 +1,12 @@
 -- A well-formed tree, child by child: each inner node has two or more children, and no species stands under two of them. Assumes nothing.
-use mathlib.Core.Bool.{Bool, So, _||_, false≢true, not, or-assoc, or-false}
+use mathlib.Core.Bool.{Bool, So, _&&_, _||_, false≢true, not, or-assoc, or-false, true}
 use mathlib.Core.List.{List, [], _++_, _∷_}
 use mathlib.Core.Path.{_∙_, _≡_, ap, ap₂, refl, subst, sym}
 use Prim.Native.Nat.{_≤_, ℕ}
 use borrow.Author.Tests.{eq-eqb, eqb-true, le-leb, leb-true}
 use lib.Dec.{eqb, leb}
 use Rattle.sets.proofs.Bools.{and-i, and-l, and-r, not-e, not-i, or-case, or-l, or-r}
+use Rattle.sets.specs.Species.{Inside, Species}
 use Rattle.trees.specs.Trees.{Forest, Tree, branching, branchingF, cons, degree, distinct, elem, leaf, leaves, leavesF, nil, node, under, underF, wellFormed}
 
 abbrev mutual
@@ -30,6 +31,18 @@ mutual
   pub elem-leavesF : (f : Forest) (x : ℕ) → elem x (leavesF f) ≡ underF f x
   elem-leavesF nil x = refl
   elem-leavesF (cons t f) x = elem-append x (leaves t) (leavesF f) ∙ ap₂ (λ (y z : Bool). y || z) (elem-leaves t x) (elem-leavesF f x)
+
+-- so they lie in S where each leaf does
+abbrev pub allIn : Species → List ℕ → Bool
+allIn S [] = true
+allIn S (x ∷ l) = S x && allIn S l
+
+elem-in : (S : Species) (l : List ℕ) → So (allIn S l) → (x : ℕ) → So (elem x l) → So (S x)
+elem-in S [] h x k = absurd (false≢true k)
+elem-in S (y ∷ l) h x k = or-case (eqb y x) (elem x l) k (λ e. subst (λ (z : ℕ). So (S z)) (eqb-true y x e) (and-l (S y) _ h)) (elem-in S l (and-r (S y) _ h) x)
+
+pub leaves-in : (t : Tree) (S : Species) → So (allIn S (leaves t)) → Inside (under t) S
+leaves-in t S h x k = elem-in S (leaves t) h x (elem-leaves t x ∙ k)
 
 -- ---- no species twice in two lists: in neither, and none in both
 

@@ -40,3 +40,5 @@ pub mod Loosened
 pub mod LooseTheorems
 pub mod LooseRuns
 pub mod Finest
+pub mod Induced
+pub mod Words

@@ -6,7 +6,7 @@ use Rattle.trees.specs.Links.{leads, part, parts}
 use Rattle.trees.specs.Trees.{Forest, cons, leaf, nil, node}
 use Rattle.trees.specs.Triplets.{Triplets, both, only}
 
-abbrev quarrel : Triplets
+abbrev pub quarrel : Triplets
 quarrel = both (only 0 1 2) (only 0 2 1)
 
 -- the leaves 0, 1 and 2

@@ -7,4 +7,5 @@ pub mod Build
 pub mod Veto
 pub mod Held
 pub mod Check
+pub mod Induced
 pub mod Loosen
