@@ -13,6 +13,9 @@ mod entered;
 #[allow(dead_code)]
 #[path = "../../second/src/grammar.rs"]
 mod grammar;
+#[allow(dead_code)]
+#[path = "../../second/src/induced.rs"]
+mod induced;
 #[path = "../../second/src/limits.rs"]
 mod limits;
 #[path = "../../second/src/loosening.rs"]
