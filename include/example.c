@@ -94,7 +94,7 @@ int main(void)
     nodes = values[0];
     printf("built: ");
     print_tree(tree, nodes, 0);
-    printf(", %zu nodes\n", nodes);
+    printf(", %zu nodes; triples looked at: %zu\n", nodes, values[1]);
 
     /* What is built keeps everything that the papers say, and may say more than they do. */
     number = koodhaxil_check(N, table, sizeof table, tree, 2 * nodes, values, KOODHAXIL_VALUES);
@@ -173,13 +173,18 @@ int main(void)
     if (number != KOODHAXIL_NO_TREE) return unexpected("building", number);
     printf("building with 02|1 beside 01|2: refused with %zu, no tree holds what is said of the species", number);
     print_set(values[0]);
-    printf("\n");
+    printf("; triples looked at: %zu\n", values[1]);
+
+    /* A build that is refused before it begins has looked at none: a byte of the table is over 15. */
+    number = koodhaxil_build(3, KOODHAXIL_ALL(3), (const uint8_t[]){ 16 }, KOODHAXIL_TABLE(3), tree, sizeof tree, values, KOODHAXIL_VALUES);
+    if (number != KOODHAXIL_BAD_BYTE) return unexpected("building", number);
+    printf("building from a byte 16: refused with %zu at place %zu; triples looked at: %zu\n", number, values[0], values[1]);
 
     /* The veto build gives a tree even then: on three species, 01|2 beside 02|1 leave a fan. */
     number = koodhaxil_veto(3, KOODHAXIL_ALL(3), (const uint8_t[]){ 1 | 2 }, KOODHAXIL_TABLE(3), tree, sizeof tree, values, KOODHAXIL_VALUES);
     if (number != KOODHAXIL_DONE) return unexpected("the veto build", number);
     printf("the veto build of 01|2 and 02|1: ");
     print_tree(tree, values[0], 0);
-    printf(", %zu nodes\n", values[0]);
+    printf(", %zu nodes; triples looked at: %zu\n", values[0], values[1]);
     return 0;
 }

@@ -47,7 +47,7 @@
  * - What is lent for writing (a pointer that is not const) overlaps nothing else that is handed to the same call. What is only read may overlap.
  * - No other thread writes what is lent, or reads what is lent for writing, before the call returns. Calls that share no such memory may run at the
  *   same time.
- * - There is stack: on x86-64 some 107 KiB for loosening, 98 for checking, 34 for listing, 14 for either build, and below 11 for the others.
+ * - There is stack: on x86-64 some 107 KiB for loosening, 98 for checking, 34 for listing, 15 for either build, and below 11 for the others.
  *
  *
  * WHAT A FUNCTION ANSWERS
@@ -71,11 +71,13 @@
 extern "C" {
 #endif
 
-/* The numbers, and behind each one what is laid into `values`. A tree number is 0 where there is only one body. */
+/* The numbers, and behind each one what is laid into `values`. A tree number is 0 where there is only one body. Of both builds, the triples looked at
+ * stand behind all this, as the last value: with 0 and with 10 as many as there were, and 0 with any other number. */
 enum koodhaxil_number {
     KOODHAXIL_DONE = 0,          /* done                                               read, list: n, tree count, set that occurs; */
                                  /*                                                    enter: n, set that occurs; */
-                                 /*                                                    order, build, veto, parse: node count; check: nothing; */
+                                 /*                                                    order, parse: node count; check: nothing; */
+                                 /*                                                    build, veto: node count, triples looked at; */
                                  /*                                                    render: length of the text; */
                                  /*                                                    loosen: node count, how many sets were dropped */
     KOODHAXIL_BAD_VERSION = 1,   /* the version byte is not 1                          nothing */
@@ -87,7 +89,7 @@ enum koodhaxil_number {
     KOODHAXIL_BAD_TABLE = 7,     /* the table's length is not C(n,3)                   nothing */
     KOODHAXIL_BAD_BYTE = 8,      /* a byte of the table is over 15                     the first such place */
     KOODHAXIL_SHORT_ROOM = 9,    /* the room or the list is too short                  nothing */
-    KOODHAXIL_NO_TREE = 10,      /* no tree holds every entered triplet                the set that stops: bit i for species i */
+    KOODHAXIL_NO_TREE = 10,      /* no tree holds every entered triplet                the set that stops: bit i for species i; triples looked at */
     KOODHAXIL_CONTRADICTED = 11, /* an entered triplet contradicts the tree            triple index, table byte */
     KOODHAXIL_UNFORCED = 12,     /* a triplet of the tree is not forced                triple index */
     KOODHAXIL_BAD_RECORD = 13,   /* a record repeats a species or has one not below n  the first such record */
@@ -107,12 +109,13 @@ enum koodhaxil_fault {
 /* The root's parent in a body, and the species of a node with children. */
 #define KOODHAXIL_NONE 255
 
-/* The most that there can be: species, trees, and the bytes of a body, a collection and a table. */
+/* The most that there can be: species, trees, the bytes of a body, a collection and a table, and the triples that a build looks at. */
 #define KOODHAXIL_MOST_SPECIES 64
 #define KOODHAXIL_MOST_TREES 16
 #define KOODHAXIL_MOST_BODY 254
 #define KOODHAXIL_MOST_COLLECTION 4099
 #define KOODHAXIL_MOST_TABLE 41664
+#define KOODHAXIL_MOST_LOOKED 677040
 
 /* The longest Newick text that is read, and in it the most brackets that are open at a time, nodes, and the largest species number. */
 #define KOODHAXIL_MOST_TEXT 4096
@@ -185,6 +188,8 @@ size_t koodhaxil_order(size_t n, const uint8_t *body, size_t body_length, uint8_
  * to the front of the room, which has 4s - 2 bytes or more for s species in the set. Handed the set that listing or entering returned, a species that no
  * paper mentions is not in the tree; handed KOODHAXIL_ALL(n), it hangs from the root. Refused with 10 exactly when no tree with exactly these species
  * holds every entered triplet; with 16 at the first triple whose byte is not 0 and whose three species are not all in the set.
+ * The triples looked at are, for every set that is split or found joined, the combinations of three of its species, added up over these sets in order, up
+ * to one that stops. For s species in the set they are at most C(s+1,4), KOODHAXIL_MOST_LOOKED for 64; a fully nested tree comes to that many.
  * Refusals: 2, 7, 8, 15, 16, 9, 10.
  */
 size_t koodhaxil_build(size_t n, uint64_t set, const uint8_t *table, size_t table_length, uint8_t *room, size_t room_length, size_t *values,
@@ -193,7 +198,8 @@ size_t koodhaxil_build(size_t n, uint64_t set, const uint8_t *table, size_t tabl
 /*
  * The veto build: as building, but where a set's links join it all, every species of that set becomes a leaf under it, and building goes on with the
  * sets beside it. So there is always a tree of exactly the species of the set, and 10 is never the answer. No entered triplet contradicts it: the check
- * against the same table answers 0 or 12. Where building answers 0, this answers the same and writes the same tree.
+ * against the same table answers 0 or 12. Where building answers 0, this answers the same and writes the same tree. The triples looked at are as in
+ * building, and nothing stops.
  * Refusals: 2, 7, 8, 15, 16, 9.
  */
 size_t koodhaxil_veto(size_t n, uint64_t set, const uint8_t *table, size_t table_length, uint8_t *room, size_t room_length, size_t *values,

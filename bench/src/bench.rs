@@ -6,8 +6,8 @@ mod clock;
 mod shapes;
 mod twin;
 
-use shapes::{body, candidates, collection, loosenings, quarrels, shuffle, shuffled, text, triples};
-use shapes::{Candidate, Dice, Loosening, Quarrel, Shape, SEED, SHAPES};
+use shapes::{body, candidates, collection, fans, looked_at, loosenings, quarrels, shuffle, shuffled, text, triples};
+use shapes::{Candidate, Dice, Loosening, Shape, Source, SEED, SHAPES};
 use std::hint::black_box;
 use std::time::Duration;
 
@@ -28,6 +28,11 @@ const SAMPLE: Duration = Duration::from_micros(1_000);
 
 // Both builds: from n, a set and a table to a body.
 type Builder = fn(usize, u64, &[u8], &mut [u8], &mut [usize]) -> usize;
+
+// One of the two builds of a side.
+type Kind = fn(&Side) -> Builder;
+const PLAIN: Kind = |side| side.build;
+const VETO: Kind = |side| side.veto;
 
 // A candidate loosened by a table: from n, a table and a body to a body and a list of sets.
 type Loosener = fn(usize, &[u8], &[u8], &mut [u8], &mut [u64], &mut [usize]) -> usize;
@@ -129,8 +134,15 @@ fn told(lent: usize, call: impl FnOnce(&mut [u8], &mut [usize]) -> usize) -> Tol
     (call(&mut lent, &mut values), values, lent)
 }
 
+// The tree in house order, with the triples that a build of it looks at as the second value.
+fn counted(ordered: &Told, tree: &[u8]) -> Told {
+    let mut built = ordered.clone();
+    built.1[1] = looked_at(tree);
+    built
+}
+
 // What one side tells of a run. Every table that is filled has to be the run's own, without the fans where it is entered; every species occurs; and the
-// tree built from the table, with a veto too, is the tree in house order; so is the body read from the text, once it is put in house order, and the body read from the text that is written.
+// tree built from the table, with a veto too, is the tree in house order, and the triples looked at are as many as its groups ask for; so is the body read from the text, once it is put in house order, and the body read from the text that is written.
 fn answers(side: &Side, run: &Run) -> Option<Vec<Told>> {
     let reads = [&run.one, &run.sixteen].map(|bytes| told(0, |_, values| (side.read)(bytes, values)));
     let lists = [&run.one, &run.sixteen].map(|bytes| told(TABLE, |table, values| (side.list)(bytes, table, values)));
@@ -147,7 +159,8 @@ fn answers(side: &Side, run: &Run) -> Option<Vec<Told>> {
     let triplets: Vec<u8> = run.table.iter().map(|byte| byte & 7).collect();
     let filled = lists.iter().all(|(_, _, table)| *table == run.table) && entered.2 == triplets;
     let occur = reads.iter().chain(&lists).map(|(_, values, _)| values[2]).chain([entered.1[1]]).all(|set| set as u64 == ALL);
-    let same = [&built, &vetoed, &housed, &again].into_iter().all(|body| *body == ordered);
+    let same = [&housed, &again].into_iter().all(|body| *body == ordered);
+    let same = same && [&built, &vetoed].into_iter().all(|body| *body == counted(&ordered, &run.tree));
     let all: Vec<Told> = reads.into_iter().chain(lists).chain([entered, ordered, built, parsed, rendered]).collect();
     (filled && occur && same && all.iter().all(|(number, ..)| *number == 0)).then_some(all)
 }
@@ -156,11 +169,11 @@ fn checked(side: &Side, candidate: &Candidate) -> Told {
     told(0, |_, values| (side.check)(N, &candidate.table, &candidate.body, values))
 }
 
-// The veto build has to be the quarrel's own body, once this is put in house order.
-fn vetoed(side: &Side, quarrel: &Quarrel) -> Option<Told> {
-    let vetoed = told(BODY, |room, values| (side.veto)(N, ALL, &quarrel.table, room, values));
-    let ordered = told(BODY, |room, values| (side.order)(N, &quarrel.body, room, values));
-    (vetoed == ordered && vetoed.0 == 0).then_some(vetoed)
+// The build of this kind has to be the source's own body, once this is put in house order.
+fn built(side: &Side, kind: Kind, source: &Source) -> Option<Told> {
+    let built = told(BODY, |room, values| kind(side)(N, ALL, &source.table, room, values));
+    let ordered = told(BODY, |room, values| (side.order)(N, &source.body, room, values));
+    (built == counted(&ordered, &source.body) && built.0 == 0).then_some(built)
 }
 
 // The final tree has to be the case's own, once this is put in house order, and the front of the list its dropped sets.
@@ -187,12 +200,15 @@ fn agree<T: PartialEq>(what: &str, tell: impl Fn(&Side) -> Option<T>) {
     }
 }
 
-fn compare(runs: &[Run], quarrels: &[Quarrel], candidates: &[Candidate], loosenings: &[Loosening]) {
+fn compare(runs: &[Run], fans: &Source, quarrels: &[Source], candidates: &[Candidate], loosenings: &[Loosening]) {
     for run in runs {
         agree(run.name, |side| answers(side, run));
     }
+    for kind in [PLAIN, VETO] {
+        agree(fans.name, |side| built(side, kind, fans));
+    }
     for quarrel in quarrels {
-        agree(quarrel.name, |side| vetoed(side, quarrel));
+        agree(quarrel.name, |side| built(side, VETO, quarrel));
     }
     for case in loosenings {
         agree(case.name, |side| loosened(side, case));
@@ -280,18 +296,23 @@ struct Table {
 impl Table {
     fn head() -> Table {
         println!(
-            "| operation | input                                      |  library, us |     twin, us |  ratio | limit | met | guide or limit      |"
+            "| operation | input                                      |  library, us |     twin, us |  ratio | limit | met | guide or limit      | triples looked at | a million, us |"
         );
-        println!("|---|---|--:|--:|--:|--:|---|---|");
+        println!("|---|---|--:|--:|--:|--:|---|---|--:|--:|");
         Table { met: true }
     }
 
-    fn row(&mut self, operation: &str, input: &str, library: f64, twin: &str, ratio: f64, limit: f64, bound: Bound) {
+    // A build has the triples that it looked at, and the library's time for a million of them.
+    fn row(&mut self, operation: &str, input: &str, library: f64, twin: &str, ratio: f64, limit: f64, bound: Bound, looked: Option<usize>) {
         let (allowed, bound) = bound.allows(library);
+        let triples = looked.map_or(String::new(), |looked| looked.to_string());
+        let million = looked.map_or(String::new(), |looked| format!("{:.0}", library * 1e6 / looked as f64));
         let met = ratio <= limit && allowed;
         self.met &= met;
         let verdict = if met { "yes" } else { "NO" };
-        println!("| {operation:<9} | {input:<42} | {library:>12.2} | {twin:>12} | {ratio:>6.3} | {limit:>5} | {verdict:<3} | {bound:<19} |");
+        println!(
+            "| {operation:<9} | {input:<42} | {library:>12.2} | {twin:>12} | {ratio:>6.3} | {limit:>5} | {verdict:<3} | {bound:<19} | {triples:>17} | {million:>13} |"
+        );
     }
 
     // The library against the twin.
@@ -302,8 +323,20 @@ impl Table {
     // The same, with the library's own time held against a bound.
     fn bounded<W: FnMut()>(&mut self, operation: &str, input: &str, limit: f64, work: impl Fn(&Side) -> W, bound: Bound) {
         let [library, twin, ratio] = compared(work(&LIBRARY), work(&TWIN));
-        self.row(operation, input, library, &format!("{twin:.2}"), ratio, limit, bound);
+        self.row(operation, input, library, &format!("{twin:.2}"), ratio, limit, bound, None);
     }
+
+    // A build of the library against the same of the twin.
+    fn builds(&mut self, operation: &str, input: &str, kind: Kind, table: &[u8]) {
+        let [library, twin, ratio] = compared(building(kind(&LIBRARY), table), building(kind(&TWIN), table));
+        self.row(operation, input, library, &format!("{twin:.2}"), ratio, TWIN_LIMIT, Bound::No, Some(looked(kind, table)));
+    }
+}
+
+// The triples that the library says it looked at.
+fn looked(kind: Kind, table: &[u8]) -> usize {
+    let (_, values, _) = told(BODY, |room, values| kind(&LIBRARY)(N, ALL, table, room, values));
+    values[1]
 }
 
 fn reading<'a>(side: &Side, bytes: &'a [u8]) -> impl FnMut() + 'a {
@@ -373,8 +406,8 @@ fn loosening<'a>(side: &Side, case: &'a Loosening) -> impl FnMut() + 'a {
 
 fn main() {
     let runs = SHAPES.map(run);
-    let (quarrels, candidates, loosenings) = (quarrels(), candidates(), loosenings());
-    compare(&runs, &quarrels, &candidates, &loosenings);
+    let (fans, quarrels, candidates, loosenings) = (fans(), quarrels(), candidates(), loosenings());
+    compare(&runs, &fans, &quarrels, &candidates, &loosenings);
     println!("The answers of library and twin are the same. All have 64 species; 16 trees are the same tree 16 times.");
     println!("Medians of {ROUNDS} rounds, the two in turn, in processor time; the ratio is the median of the rounds' ratios.");
     println!();
@@ -389,7 +422,7 @@ fn main() {
     }
     for run in &runs {
         let [sixteen, _, ratio] = compared(listing(&LIBRARY, &run.sixteen), listing(&LIBRARY, &run.one));
-        table.row("list", &format!("{}, 16 trees; the ratio is to 1 tree", run.name), sixteen, "", ratio, TREES_LIMIT, Bound::No);
+        table.row("list", &format!("{}, 16 trees; the ratio is to 1 tree", run.name), sixteen, "", ratio, TREES_LIMIT, Bound::No, None);
     }
     for run in &runs {
         table.twins("enter", &format!("{}, {} records", run.name, run.records.len()), TWIN_LIMIT, |side| entering(side, &run.records));
@@ -397,19 +430,19 @@ fn main() {
     for run in &runs {
         table.twins("order", run.name, ORDER_LIMIT, |side| ordering(side, &run.tree));
     }
-    for run in &runs {
-        table.twins("build", &format!("{}, from its own table", run.name), TWIN_LIMIT, |side| building(side.build, &run.table));
-    }
-    for run in &runs {
-        table.twins("veto", &format!("{}, from its own table", run.name), TWIN_LIMIT, |side| building(side.veto, &run.table));
+    for (operation, kind) in [("build", PLAIN), ("veto", VETO)] {
+        for run in &runs {
+            table.builds(operation, &format!("{}, from its own table", run.name), kind, &run.table);
+        }
+        table.builds(operation, fans.name, kind, &fans.table);
     }
     for quarrel in &quarrels {
-        table.twins("veto", quarrel.name, TWIN_LIMIT, |side| building(side.veto, &quarrel.table));
+        table.builds("veto", quarrel.name, VETO, &quarrel.table);
     }
     // The nested tree takes the most splitting.
     let nested = &runs[0];
     let [vetoed, _, ratio] = compared(building(LIBRARY.veto, &nested.table), building(LIBRARY.build, &nested.table));
-    table.row("veto", &format!("{}; the ratio is to the plain build", nested.name), vetoed, "", ratio, VETO_LIMIT, Bound::No);
+    table.row("veto", &format!("{}; the ratio is to the plain build", nested.name), vetoed, "", ratio, VETO_LIMIT, Bound::No, Some(looked(VETO, &nested.table)));
     for (candidate, guide) in candidates.iter().zip(CHECK_GUIDES) {
         table.bounded("check", candidate.name, TWIN_LIMIT, |side| checking(side, candidate), Bound::Guide(guide));
     }

@@ -1,6 +1,6 @@
 // What the second program (`second/`) says, in the form of the C functions: the number, the values as they are laid, and what is written.
 
-use crate::operations::{self, Collection, Refusal};
+use crate::operations::{self, Collection, Counted, Refusal};
 use crate::trees::Fault;
 
 pub struct Told {
@@ -83,14 +83,26 @@ pub fn order(n: usize, body: &[u8], room: usize) -> (Told, Option<Vec<u8>>) {
     written(room, 2, |room| operations::order(n as u64, body, room))
 }
 
+// The same of a build, whose last value is always the triples looked at.
+fn counted(room: usize, build: impl FnOnce(&mut [u8]) -> Counted) -> (Told, Option<Vec<u8>>) {
+    let mut looked = 0;
+    let (mut told, body) = written(room, 2, |room| {
+        let (given, count) = build(room);
+        looked = count;
+        given
+    });
+    told.values.push(looked);
+    (told, body)
+}
+
 /// What building from a table over a set of `n` species tells, with `room` bytes to write to, and what is written to their front.
 pub fn build(n: usize, set: u64, table: &[u8], room: usize) -> (Told, Option<Vec<u8>>) {
-    written(room, 2, |room| operations::build(n as u64, set, table, room))
+    counted(room, |room| operations::build(n as u64, set, table, room))
 }
 
 /// What building with a veto tells, and what is written, as for `build`.
 pub fn veto(n: usize, set: u64, table: &[u8], room: usize) -> (Told, Option<Vec<u8>>) {
-    written(room, 2, |room| operations::veto(n as u64, set, table, room))
+    counted(room, |room| operations::veto(n as u64, set, table, room))
 }
 
 /// What reading a Newick text over `n` species tells, with `room` bytes to write to, and what is written to their front.

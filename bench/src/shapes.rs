@@ -114,15 +114,34 @@ pub fn star(first: u8, count: u8) -> Vec<u8> {
     joined(&(first..first + count).map(leaf).collect::<Vec<_>>())
 }
 
-/// A table of 64 species that quarrels, and the body of the tree that the veto build gives.
-pub struct Quarrel {
+/// The triples that a build looks at which gives this body: for each node with children, the combinations of three of the species under it.
+pub fn looked_at(body: &[u8]) -> usize {
+    let mut sizes = vec![0; body.len() / 2];
+    for node in (0..sizes.len()).rev() {
+        if body[2 * node + 1] != 255 {
+            sizes[node] = 1;
+        }
+        if node > 0 {
+            sizes[body[2 * node] as usize] += sizes[node];
+        }
+    }
+    sizes.iter().map(|&size: &usize| size * size.saturating_sub(1) * size.saturating_sub(2) / 6).sum()
+}
+
+/// A table of 64 species, and the body of the tree that is built from it.
+pub struct Source {
     pub name: &'static str,
     pub body: Vec<u8>,
     pub table: Vec<u8>,
 }
 
-/// A quarrel at the end of all splitting, and one in each of many parts.
-pub fn quarrels() -> [Quarrel; 2] {
+/// The table of a star: nothing but fans.
+pub fn fans() -> Source {
+    Source { name: "star, from its own table", body: star(0, 64), table: vec![8; 41_664] }
+}
+
+/// A quarrel at the end of all splitting, and one in each of many parts: the bodies are those of the veto build.
+pub fn quarrels() -> [Source; 2] {
     // ((..((0,1,2),3)..),63)
     let nested = (3..64).fold(star(0, 3), |tree, s| joined(&[tree, leaf(s)]));
     // Each two neighbours under a node, again and again.
@@ -131,8 +150,8 @@ pub fn quarrels() -> [Quarrel; 2] {
         fours = fours.chunks(2).map(joined).collect();
     }
     [
-        Quarrel { name: "nested, its three lowest quarrel", body: nested, table: table(|_, _, c| if c == 2 { 7 } else { 1 }) },
-        Quarrel {
+        Source { name: "nested, its three lowest quarrel", body: nested, table: table(|_, _, c| if c == 2 { 7 } else { 1 }) },
+        Source {
             name: "balanced, each four quarrel",
             body: fours.remove(0),
             table: table(|a, b, c| if a / 4 == c / 4 { 7 } else { halved(a, b, c) }),

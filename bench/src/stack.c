@@ -1,7 +1,7 @@
 /*
  * Builds the tree of 64 nested species, the deepest there is, on a stack of so many bytes: stack [BYTES]. Behind the stack's end lies memory that
  * nothing may touch, so that a build that needs more dies. Prints how many bytes the build touches where there are plenty. Exit 1 where it dies on
- * BYTES, or the tree is another one.
+ * BYTES, or the tree is another one, or the triples looked at are not the most that there can be.
  */
 #define _GNU_SOURCE
 #include <stdio.h>
@@ -78,7 +78,7 @@ static void on_stack(size_t bytes, int say)
     for (low = 0; low < bytes && stack[low] == UNTOUCHED; low++);
     if (say) printf("stack: building 64 nested species touches %zu bytes\n", bytes - low);
     fflush(stdout);
-    _exit(number == KOODHAXIL_DONE && values[0] == 2 * N - 1 && memcmp(room, wanted, sizeof room) == 0 ? 0 : 1);
+    _exit(number == KOODHAXIL_DONE && values[0] == 2 * N - 1 && values[1] == KOODHAXIL_MOST_LOOKED && memcmp(room, wanted, sizeof room) == 0 ? 0 : 1);
 }
 
 /* The same in a process of its own. Returns how that ended. */

@@ -16,6 +16,7 @@ mod grammar;
 #[allow(dead_code)]
 #[path = "../../second/src/induced.rs"]
 mod induced;
+#[allow(dead_code)]
 #[path = "../../second/src/limits.rs"]
 mod limits;
 #[path = "../../second/src/loosening.rs"]
@@ -41,7 +42,7 @@ mod writer;
 
 use plain::Told;
 use random::Random;
-use shapes::{body, candidates, collection, joined, loosenings, shuffled, star, text, Dice, Shape, SEED, SHAPES};
+use shapes::{body, candidates, collection, joined, looked_at, loosenings, shuffled, star, text, Dice, Shape, SEED, SHAPES};
 use std::fmt::Debug;
 use std::hint::black_box;
 use trees::Tree;
@@ -186,7 +187,7 @@ impl Tally {
         }
     }
 
-    // Built over all n species.
+    // Built over all n species. The triples looked at are those that the groups of the body ask for.
     fn built(&mut self, name: &str, n: usize, table: &[u8], body: &[u8]) {
         self.built_over(name, n, all(n), table, body);
     }
@@ -194,25 +195,25 @@ impl Tally {
     // The veto build gives the same tree.
     fn built_over(&mut self, name: &str, n: usize, set: u64, table: &[u8], body: &[u8]) {
         for more in [0, 1, 2, 300] {
-            self.calls(name, Call::Build(n, set, table, body_room(set) + more), 0, &[body.len() / 2], Some(body));
+            self.calls(name, Call::Build(n, set, table, body_room(set) + more), 0, &[body.len() / 2, looked_at(body)], Some(body));
         }
         self.vetoed(name, n, set, table, body);
     }
 
     fn vetoed(&mut self, name: &str, n: usize, set: u64, table: &[u8], body: &[u8]) {
         for more in [0, 1, 2, 300] {
-            self.calls(name, Call::Veto(n, set, table, body_room(set) + more), 0, &[body.len() / 2], Some(body));
+            self.calls(name, Call::Veto(n, set, table, body_room(set) + more), 0, &[body.len() / 2, looked_at(body)], Some(body));
         }
     }
 
-    // A set that stops, built over all n species.
-    fn no_tree(&mut self, name: &str, n: usize, table: &[u8], stop: usize) {
+    // A set that stops, and the triples looked at, built over all n species.
+    fn no_tree(&mut self, name: &str, n: usize, table: &[u8], stop: [usize; 2]) {
         self.no_tree_over(name, n, all(n), table, stop);
     }
 
-    fn no_tree_over(&mut self, name: &str, n: usize, set: u64, table: &[u8], stop: usize) {
+    fn no_tree_over(&mut self, name: &str, n: usize, set: u64, table: &[u8], stop: [usize; 2]) {
         for more in [0, 1, 300] {
-            self.calls(name, Call::Build(n, set, table, body_room(set) + more), 10, &[stop], None);
+            self.calls(name, Call::Build(n, set, table, body_room(set) + more), 10, &stop, None);
         }
     }
 
@@ -739,13 +740,14 @@ const BUILDS: [(&str, fn(usize, u64, &[u8], usize) -> Call); 2] = [
     ("to build from with a veto", |n, set, table, room| Call::Veto(n, set, table, room)),
 ];
 
+// No triple was looked at.
 fn tables_refused(tally: &mut Tally, what: &str, call: fn(usize, u64, &[u8], usize) -> Call) {
     // 43,680 bytes are a table of 65 species. n comes first, then the length, then the bytes, then the set, what is outside it, and the room.
     for n in BAD_COUNTS {
         for length in [0, 4, 5, 41_664, 43_680] {
             for byte in [0, 1, 255] {
                 for (set, room) in [(0, 0), (15, 14), (u64::MAX, 300)] {
-                    tally.calls("n 0 or over 64", call(n, set, &vec![byte; length], room), 2, &[], None);
+                    tally.calls("n 0 or over 64", call(n, set, &vec![byte; length], room), 2, &[0], None);
                 }
             }
         }
@@ -754,7 +756,7 @@ fn tables_refused(tally: &mut Tally, what: &str, call: fn(usize, u64, &[u8], usi
         for length in lengths {
             for byte in [0, 3, 255] {
                 for (set, room) in [(0, 0), (all(n), 4 * n - 3), (all(n), 4 * n - 2), (1, 300), (u64::MAX, 300)] {
-                    tally.calls("a table of a wrong length", call(n, set, &vec![byte; length], room), 7, &[], None);
+                    tally.calls("a table of a wrong length", call(n, set, &vec![byte; length], room), 7, &[0], None);
                 }
             }
         }
@@ -763,7 +765,7 @@ fn tables_refused(tally: &mut Tally, what: &str, call: fn(usize, u64, &[u8], usi
     last[41_663] = 16;
     for (n, table, first) in OVER.into_iter().chain([(64, &last[..], 41_663)]) {
         for (set, room) in [(0, 0), (all(n), 4 * n - 3), (all(n), 4 * n - 2), (1, 300), (u64::MAX, 300)] {
-            tally.calls("a byte over 15", call(n, set, table, room), 8, &[first], None);
+            tally.calls("a byte over 15", call(n, set, table, room), 8, &[first, 0], None);
         }
     }
     // Room for the body alone is not enough, and a table that no tree holds is 9 all the same.
@@ -784,7 +786,7 @@ fn tables_refused(tally: &mut Tally, what: &str, call: fn(usize, u64, &[u8], usi
     ];
     for (n, set, table, rooms) in rooms {
         for &room in rooms {
-            tally.calls("room too short", call(n, set, table, room), 9, &[], None);
+            tally.calls("room too short", call(n, set, table, room), 9, &[0], None);
         }
     }
     tally.end_part(&format!("tables {what}, refused"));
@@ -803,7 +805,7 @@ fn sets_refused(tally: &mut Tally, what: &str, call: fn(usize, u64, &[u8], usize
         for &set in sets {
             for byte in [0, 1, 8, 15] {
                 for room in [0, 4 * n - 2, 300] {
-                    tally.calls("no set of the species", call(n, set, &vec![byte; fitting(n)], room), 15, &[], None);
+                    tally.calls("no set of the species", call(n, set, &vec![byte; fitting(n)], room), 15, &[0], None);
                 }
             }
         }
@@ -836,7 +838,7 @@ fn sets_refused(tally: &mut Tally, what: &str, call: fn(usize, u64, &[u8], usize
     ];
     for (n, set, table, first) in outside {
         for room in [0, body_room(set), 300] {
-            tally.calls("a byte outside the set", call(n, set, table, room), 16, &[first], None);
+            tally.calls("a byte outside the set", call(n, set, table, room), 16, &[first, 0], None);
         }
     }
     tally.end_part(&format!("sets with tables {what}, refused"));
@@ -844,41 +846,45 @@ fn sets_refused(tally: &mut Tally, what: &str, call: fn(usize, u64, &[u8], usize
 
 fn tables_without_a_tree(tally: &mut Tally) {
     for byte in [3, 5, 6, 7] {
-        tally.no_tree("two or three of a triple", 3, &[byte], 7);
-        tally.no_tree("two or three of a triple, and a fan", 3, &[byte + 8], 7);
+        tally.no_tree("two or three of a triple", 3, &[byte], [7, 1]);
+        tally.no_tree("two or three of a triple, and a fan", 3, &[byte + 8], [7, 1]);
     }
-    tally.no_tree("01|2 and 02|1 of 4", 4, &[3, 0, 0, 0], 7);
-    tally.no_tree("01|2, 03|1 and 12|3", 4, &[1, 2, 0, 1], 15);
-    tally.no_tree("13|2 and 23|1 of 4", 4, &[0, 0, 0, 6], 14);
-    tally.no_tree("01|2 and 12|3, and 02|1", 4, &[3, 0, 0, 1], 7);
-    tally.no_tree("all of 4", 4, &[7; 4], 15);
+    tally.no_tree("01|2 and 02|1 of 4", 4, &[3, 0, 0, 0], [7, 5]);
+    tally.no_tree("01|2, 03|1 and 12|3", 4, &[1, 2, 0, 1], [15, 4]);
+    tally.no_tree("13|2 and 23|1 of 4", 4, &[0, 0, 0, 6], [14, 5]);
+    tally.no_tree("01|2 and 12|3, and 02|1", 4, &[3, 0, 0, 1], [7, 5]);
+    tally.no_tree("all of 4", 4, &[7; 4], [15, 4]);
     let mut table = [0; 20];
     table[19] = 3;
-    tally.no_tree("34|5 and 35|4 of 6", 6, &table, 56);
+    tally.no_tree("34|5 and 35|4 of 6", 6, &table, [56, 21]);
     table[0] = 5;
-    tally.no_tree("12|0 and 01|2 beside them", 6, &table, 7);
+    tally.no_tree("12|0 and 01|2 beside them", 6, &table, [7, 21]);
     // (0,1,2) stops below {0,1,2,3}, which 23|4 joins; (4,5,6) stops higher up and comes later.
     let mut table = [0; 35];
     (table[0], table[9], table[34]) = (3, 1, 3);
-    tally.no_tree("a deep set before a high one", 7, &table, 7);
+    tally.no_tree("a deep set before a high one", 7, &table, [7, 40]);
     // (0,1) and (2,3) are trees, and (4,5,6) stops.
     table[0] = 1;
-    tally.no_tree("two trees before a set that stops", 7, &table, 112);
+    tally.no_tree("two trees before a set that stops", 7, &table, [112, 36]);
     let mut table = vec![0; 41_664];
     table[41_663] = 6;
-    tally.no_tree("the last triple of 64", 64, &table, 7 << 61);
+    tally.no_tree("the last triple of 64", 64, &table, [7 << 61, 41_665]);
     table[0] = 3;
-    tally.no_tree("the first and the last triple of 64", 64, &table, 7);
-    tally.no_tree("all of 64", 64, &[7; 41_664], usize::MAX);
-    tally.no_tree("all of 64, and fans", 64, &[15; 41_664], usize::MAX);
+    tally.no_tree("the first and the last triple of 64", 64, &table, [7, 41_665]);
+    tally.no_tree("all of 64", 64, &[7; 41_664], [usize::MAX, 41_664]);
+    tally.no_tree("all of 64, and fans", 64, &[15; 41_664], [usize::MAX, 41_664]);
+    // The nested tree with 01|2 and 02|1: all sets are split before the last one stops, which is the most that there can be.
+    let mut table = vec![1; 41_664];
+    table[0] = 3;
+    tally.no_tree("nested, its three lowest quarrel", 64, &table, [7, 677_040]);
     // Over a part of the species: the set that stops is inside it.
-    tally.no_tree_over("01|2 and 02|1, over the three", 4, 7, &[3, 0, 0, 0], 7);
-    tally.no_tree_over("01|3 and 03|1, over the three", 4, 11, &[0, 3, 0, 0], 11);
-    tally.no_tree_over("14|2 and 24|1, and 0 beside them", 5, 23, &[0, 0, 0, 0, 0, 0, 6, 0, 0, 0], 22);
+    tally.no_tree_over("01|2 and 02|1, over the three", 4, 7, &[3, 0, 0, 0], [7, 1]);
+    tally.no_tree_over("01|3 and 03|1, over the three", 4, 11, &[0, 3, 0, 0], [11, 1]);
+    tally.no_tree_over("14|2 and 24|1, and 0 beside them", 5, 23, &[0, 0, 0, 0, 0, 0, 6, 0, 0, 0], [22, 5]);
     let mut table = vec![0; 41_664];
     table[41_663] = 3;
-    tally.no_tree_over("the last three of 64", 64, 7 << 61, &table, 7 << 61);
-    tally.no_tree_over("the last three of 64, and 5", 64, (7 << 61) + 32, &table, 7 << 61);
+    tally.no_tree_over("the last three of 64", 64, 7 << 61, &table, [7 << 61, 1]);
+    tally.no_tree_over("the last three of 64, and 5", 64, (7 << 61) + 32, &table, [7 << 61, 5]);
     tally.end_part("tables that no tree holds");
 }
 
@@ -910,8 +916,13 @@ fn tables_built(tally: &mut Tally) {
     tally.built("04|1 of 5", 5, &[0, 0, 0, 0, 2, 0, 0, 0, 0, 0], &[255, 255, 0, 255, 1, 0, 1, 4, 0, 1, 0, 2, 0, 3]);
     tally.built("the run with n = 6", 6, &SIX_TABLE, &SIX);
     tally.built("n 64, nothing entered", 64, &[0; 41_664], &star(0, 64));
-    tally.built("n 64, fans", 64, &[8; 41_664], &star(0, 64));
+    // The triples looked at with 64 species, added up by hand: a star has one set, a nested tree one of each size, and a balanced one 64, 2 of 32, and
+    // so on.
+    let (fans, [_, _, balanced, _]) = (shapes::fans(), candidates());
+    assert_eq!([&fans.body, &nested_house(), &balanced.body].map(|body| looked_at(body)), [41_664, 677_040, 54_336]);
+    tally.built(fans.name, 64, &fans.table, &fans.body);
     tally.built("all of ((((0,1),2),3)..,63)", 64, &[1; 41_664], &nested_house());
+    tally.built(balanced.name, 64, &balanced.table, &plain::order(64, &balanced.body, 254).1.unwrap());
     let mut table = vec![0; 41_664];
     table[41_663] = 1;
     let mut last = vec![255, 255];
@@ -1773,8 +1784,8 @@ fn random_trees(tally: &mut Tally) {
         let (list_told, table) = plain::list(&one, fitting(n));
         tally.call("the table of one tree", Call::List(&one, fitting(n)), MOST_VALUES, &list_told, table.as_deref());
         let table = table.unwrap();
-        assert_eq!(plain::build(n, set, &table, room).1, house, "the second program builds another tree");
-        for call in [Call::Build(n, set, &table, room), Call::Veto(n, set, &table, room)] {
+        for ((told, body), call) in builds(n, set, &table, room) {
+            assert_eq!(body, house, "the second program builds another tree");
             tally.call("the tree built again", call, MOST_VALUES, &told, house.as_deref());
         }
     }

@@ -34,8 +34,9 @@ enum Answer {
     BadTable,
     BadByte(usize),
     ShortRoom,
-    NoTree(u64),
+    NoTree { set: u64, looked: usize },
     Written(usize),
+    Built { nodes: usize, looked: usize },
     Passes,
     Loosened { nodes: usize, dropped: usize },
     Contradicted { index: usize, byte: u8 },
@@ -584,9 +585,11 @@ fn mirror(s: u64, g: &mut [u64; 64]) {
     }
 }
 
-// The links on s, a row for each species: of all triples with their three species in s, and then the other direction of each link.
-fn links(t: &[u8], s: u64) -> [u64; 64] {
+// The links on s, a row for each species: of all triples with their three species in s, and then the other direction of each link. And how many triples
+// were looked at.
+fn links(t: &[u8], s: u64) -> ([u64; 64], usize) {
     let mut g = [0; 64];
+    let mut looked = 0;
     let mut highest = s;
     while highest != 0 {
         let c = lowest(highest);
@@ -605,6 +608,7 @@ fn links(t: &[u8], s: u64) -> [u64; 64] {
                         join(v & 4 != 0, b, c, &mut g);
                     }
                 }
+                looked += 1;
                 left = rest(left);
             }
             middle = rest(middle);
@@ -612,7 +616,7 @@ fn links(t: &[u8], s: u64) -> [u64; 64] {
         highest = rest(highest);
     }
     mirror(s, &mut g);
-    g
+    (g, looked)
 }
 
 // What is reached from a over the links.
@@ -629,9 +633,9 @@ fn part(g: &[u64; 64], a: usize) -> u64 {
     x
 }
 
-// The connected parts of s, by lowest species, to the front of `parts`. Returns how many there are.
-fn split(t: &[u8], s: u64, parts: &mut [u64; 64]) -> usize {
-    let g = links(t, s);
+// The connected parts of s, by lowest species, to the front of `parts`. Returns how many there are, and how many triples were looked at.
+fn split(t: &[u8], s: u64, parts: &mut [u64; 64]) -> (usize, usize) {
+    let (g, looked) = links(t, s);
     let mut left = s;
     let mut k = 0;
     while left != 0 {
@@ -640,13 +644,13 @@ fn split(t: &[u8], s: u64, parts: &mut [u64; 64]) -> usize {
         k += 1;
         left &= !p;
     }
-    k
+    (k, looked)
 }
 
-// The next node's number, or the set that stops.
+// The next node's number, or the set that stops; and the triples looked at so far.
 enum Grown {
-    Next(usize),
-    Stopped(u64),
+    Next { node: usize, looked: usize },
+    Stopped { set: u64, looked: usize },
 }
 
 // Writes a node with the species of s as leaves under it, as node `at` under a parent. Returns the number of the next node.
@@ -662,28 +666,33 @@ fn put_star(s: u64, draft: &mut [u8], at: usize, parent: u8) -> usize {
     next
 }
 
-// Builds the set s, as node `at` under a parent. A set that is joined stops the plain build, and becomes a star in the veto build.
-fn grow(t: &[u8], s: u64, veto: bool, draft: &mut [u8], at: usize, parent: u8) -> Grown {
+// Builds the set s, as node `at` under a parent, with so many triples looked at before. A set that is joined stops the plain build, and becomes a star
+// in the veto build.
+fn grow(t: &[u8], s: u64, veto: bool, draft: &mut [u8], at: usize, parent: u8, before: usize) -> Grown {
     if s.count_ones() == 1 {
         put_node(draft, at, parent, lowest(s) as u8);
-        return Grown::Next(at + 1);
+        return Grown::Next { node: at + 1, looked: before };
     }
     let mut parts = [0; 64];
-    let count = split(t, s, &mut parts);
+    let (count, here) = split(t, s, &mut parts);
+    let mut looked = before + here;
     if count == 1 {
-        return if veto { Grown::Next(put_star(s, draft, at, parent)) } else { Grown::Stopped(s) };
+        return if veto { Grown::Next { node: put_star(s, draft, at, parent), looked } } else { Grown::Stopped { set: s, looked } };
     }
     put_node(draft, at, parent, NONE);
     let mut next = at + 1;
     let mut k = 0;
     while k < count {
-        match grow(t, parts[k], veto, draft, next, at as u8) {
-            Grown::Next(m) => next = m,
-            Grown::Stopped(u) => return Grown::Stopped(u),
+        match grow(t, parts[k], veto, draft, next, at as u8, looked) {
+            Grown::Next { node, looked: more } => {
+                next = node;
+                looked = more;
+            }
+            stopped => return stopped,
         }
         k += 1;
     }
-    Grown::Next(next)
+    Grown::Next { node: next, looked }
 }
 
 // The length that holds the body of any tree of s species.
@@ -742,13 +751,13 @@ fn build_answer(n: usize, set: u64, t: &[u8], veto: bool, out: &mut [u8]) -> Ans
         return Answer::ShortRoom;
     }
     let mut draft = [0; 254];
-    match grow(t, set, veto, &mut draft, 0, NONE) {
-        Grown::Next(m) => {
-            let end = WIDTH * m;
+    match grow(t, set, veto, &mut draft, 0, NONE, 0) {
+        Grown::Next { node, looked } => {
+            let end = WIDTH * node;
             out[..end].copy_from_slice(&draft[..end]);
-            Answer::Written(m)
+            Answer::Built { nodes: node, looked }
         }
-        Grown::Stopped(u) => Answer::NoTree(u),
+        Grown::Stopped { set, looked } => Answer::NoTree { set, looked },
     }
 }
 
@@ -1295,12 +1304,16 @@ fn hand_back(answer: Answer, values: &mut [usize]) -> usize {
             8
         }
         Answer::ShortRoom => 9,
-        Answer::NoTree(s) => {
-            lay(values, &[s as usize]);
+        Answer::NoTree { set, looked } => {
+            lay(values, &[set as usize, looked]);
             10
         }
         Answer::Written(count) => {
             lay(values, &[count]);
+            0
+        }
+        Answer::Built { nodes, looked } => {
+            lay(values, &[nodes, looked]);
             0
         }
         Answer::Passes => 0,
@@ -1332,6 +1345,16 @@ fn hand_back(answer: Answer, values: &mut [usize]) -> usize {
     }
 }
 
+// The same of a build, whose last value is always the triples looked at.
+fn hand_back_counted(answer: Answer, values: &mut [usize]) -> usize {
+    match answer {
+        Answer::BadByte(i) | Answer::Outside(i) => lay(values, &[i, 0]),
+        Answer::Built { .. } | Answer::NoTree { .. } => {}
+        _ => lay(values, &[0]),
+    }
+    hand_back(answer, values)
+}
+
 pub fn read(b: &[u8], values: &mut [usize]) -> usize {
     hand_back(read_answer(b), values)
 }
@@ -1349,11 +1372,11 @@ pub fn order(n: usize, body: &[u8], out: &mut [u8], values: &mut [usize]) -> usi
 }
 
 pub fn build(n: usize, set: u64, t: &[u8], out: &mut [u8], values: &mut [usize]) -> usize {
-    hand_back(build_answer(n, set, t, false, out), values)
+    hand_back_counted(build_answer(n, set, t, false, out), values)
 }
 
 pub fn veto(n: usize, set: u64, t: &[u8], out: &mut [u8], values: &mut [usize]) -> usize {
-    hand_back(build_answer(n, set, t, true, out), values)
+    hand_back_counted(build_answer(n, set, t, true, out), values)
 }
 
 pub fn check(n: usize, t: &[u8], body: &[u8], values: &mut [usize]) -> usize {

@@ -2,7 +2,9 @@
 
 use std::fmt::{Display, Write};
 
-use crate::operations::{build, check, enter, list, loosen, order, parse, read, render, veto, Collection, Refusal};
+use crate::operations::{
+    build, check, enter, list, loosen, order, parse, read, render, veto, Collection, Counted, Refusal,
+};
 use crate::trees::Fault;
 
 /// The longest slice, in bytes, and the longest lists of records and of sets that a call may hand over.
@@ -24,11 +26,12 @@ pub enum Call {
     Render { n: u64, body: Vec<u8>, room: Vec<u8> },
 }
 
-/// The answer to a call: its number, the values that come with 0, the word of its fault where there is one, the bytes that
-/// were lent as the call leaves them, and its line without the byte 10 at the end.
+/// The answer to a call: its number, the values that come with 0, the triples that a build looked at, the word of its fault
+/// where there is one, the bytes that were lent as the call leaves them, and its line without the byte 10 at the end.
 pub struct Answer {
     pub number: u8,
     pub values: Vec<u64>,
+    pub looked: Option<u64>,
     pub fault: Option<&'static str>,
     pub lent: Option<Vec<u8>>,
     pub line: String,
@@ -125,8 +128,8 @@ impl Call {
                 answer(given, Some(table))
             }
             Call::Order { n, body, room } => in_room(room, |room| order(*n, body, room)),
-            Call::Build { n, set, table, room } => in_room(room, |room| build(*n, *set, table, room)),
-            Call::Veto { n, set, table, room } => in_room(room, |room| veto(*n, *set, table, room)),
+            Call::Build { n, set, table, room } => counted(room, |room| build(*n, *set, table, room)),
+            Call::Veto { n, set, table, room } => counted(room, |room| veto(*n, *set, table, room)),
             Call::Check { n, table, body } => {
                 let given = check(*n, table, body).map(|()| vec![]);
                 answer(given, None)
@@ -217,7 +220,19 @@ fn in_room(room: &[u8], operation: impl FnOnce(&mut [u8]) -> Result<usize, Refus
     answer(given, Some(room))
 }
 
+/// The answer of a build. Every line of one ends with the triples looked at, before what was lent.
+fn counted(room: &[u8], build: impl FnOnce(&mut [u8]) -> Counted) -> Answer {
+    let mut room = room.to_vec();
+    let (given, looked) = build(&mut room);
+    answer_counted(given.map(|nodes| vec![nodes as u64]), Some(looked as u64), Some(room))
+}
+
 fn answer(given: Result<Vec<u64>, Refusal>, lent: Option<Vec<u8>>) -> Answer {
+    answer_counted(given, None, lent)
+}
+
+/// The answer, with the triples looked at where there are some to be told.
+fn answer_counted(given: Result<Vec<u64>, Refusal>, looked: Option<u64>, lent: Option<Vec<u8>>) -> Answer {
     let mut fault_word = None;
     let done = given.clone().unwrap_or_default();
     let (number, values) = match given {
@@ -251,14 +266,14 @@ fn answer(given: Result<Vec<u64>, Refusal>, lent: Option<Vec<u8>>) -> Answer {
         }
     };
     let mut line = number.to_string();
-    for value in values {
+    for value in values.into_iter().chain(looked.map(|count| count.to_string())) {
         line.push(' ');
         line.push_str(&value);
     }
     if let Some(lent) = &lent {
         put_lent(&mut line, lent);
     }
-    Answer { number, values: done, fault: fault_word, lent, line }
+    Answer { number, values: done, looked, fault: fault_word, lent, line }
 }
 
 /// A lent memory at the end of a line: a bar, and its content in decimal.

@@ -7,6 +7,7 @@ use std::sync::mpsc::{channel, sync_channel, SyncSender};
 use std::sync::Mutex;
 
 use crate::calls::{lines, Answer, Call};
+use crate::operations::most_looked_at;
 use crate::programs::{Feed, Program, Programs, Run, AT_A_TIME};
 
 /// A batch is one run of trial; it is closed when it passes one of these.
@@ -19,14 +20,20 @@ const KEPT: usize = 10;
 /// From this number on, it does not matter how many sets were dropped.
 pub const MANY_DROPPED: u64 = 3;
 
-/// How often each number of each operation came, each fault, each byte in the tables that were listed, and how often so
-/// many sets were dropped.
+/// Of the triples that a build looked at: there were none; fewer than the most that the species of its set allow; or these.
+pub const NONE_LOOKED_AT: &str = "none";
+pub const FEWER_LOOKED_AT: &str = "fewer";
+pub const MOST_LOOKED_AT: &str = "the most";
+
+/// How often each number of each operation came, each fault, each byte in the tables that were listed, how often so many
+/// sets were dropped, and how often a build that gave each number looked at so many triples.
 #[derive(Default)]
 pub struct Counts {
     pub numbers: BTreeMap<(char, u8), u64>,
     pub faults: BTreeMap<(char, &'static str), u64>,
     pub listed: BTreeMap<u8, u64>,
     pub dropped: BTreeMap<u64, u64>,
+    pub looked: BTreeMap<(char, u8, &'static str), u64>,
 }
 
 impl Counts {
@@ -43,6 +50,14 @@ impl Counts {
         if let (Call::Loosen { .. }, [_, dropped]) = (call, &answer.values[..]) {
             *self.dropped.entry((*dropped).min(MANY_DROPPED)).or_default() += 1;
         }
+        if let (Call::Build { set, .. } | Call::Veto { set, .. }, Some(looked)) = (call, answer.looked) {
+            let word = match looked {
+                0 => NONE_LOOKED_AT,
+                most if most == most_looked_at(set.count_ones() as usize) as u64 => MOST_LOOKED_AT,
+                _ => FEWER_LOOKED_AT,
+            };
+            *self.looked.entry((call.letter(), answer.number, word)).or_default() += 1;
+        }
     }
 
     fn add_all(&mut self, more: Counts) {
@@ -55,6 +70,7 @@ impl Counts {
         add_each(&mut self.faults, more.faults);
         add_each(&mut self.listed, more.listed);
         add_each(&mut self.dropped, more.dropped);
+        add_each(&mut self.looked, more.looked);
     }
 }
 

@@ -1,4 +1,5 @@
-//! Entered triplets, links, parts and the two builds (document 01, "Triplets, links, building"; document 02, T-06).
+//! Entered triplets, links, parts and the two builds, with the sets that they visit (document 01, "Triplets, links,
+//! building"; document 02, T-06 and T-09).
 
 use crate::trees::{subsets, tables_of_all_trees, Tree};
 use crate::triples::{all, has, has_three, index, members, one, triples, triplets_on};
@@ -66,10 +67,16 @@ impl Entered {
 
     /// The tree on a set, or the first set that stops, in preorder.
     pub fn build(&self, set: u64, joined: Joined) -> Result<Tree, u64> {
+        self.build_visiting(set, joined, &mut Vec::new())
+    }
+
+    /// The same; the sets that are split, or found joined, are added to those visited, in order, up to any stop.
+    pub fn build_visiting(&self, set: u64, joined: Joined, visited: &mut Vec<u64>) -> Result<Tree, u64> {
         if set.count_ones() == 1 {
             return Ok(Tree::Leaf(set.trailing_zeros() as usize));
         }
         let parts = self.parts(set);
+        visited.push(set);
         if parts.len() == 1 {
             return match joined {
                 Joined::Stops => Err(set),
@@ -78,7 +85,7 @@ impl Entered {
         }
         let mut children = Vec::new();
         for part in parts {
-            children.push(self.build(part, joined)?);
+            children.push(self.build_visiting(part, joined, visited)?);
         }
         Ok(Tree::Inner(children))
     }
@@ -171,15 +178,19 @@ fn holds_all(says: &[u8], table: &[u8]) -> bool {
 
 /// The build on a set in another way: its species are numbered anew from 0 on, built as all that there
 /// are, and get their numbers back. Up to five of them, all trees are looked at.
-pub fn build_numbered_anew(set: u64, table: &[u8], joined: Joined) -> Result<Tree, u64> {
+pub fn build_numbered_anew(set: u64, table: &[u8], joined: Joined, visited: &mut Vec<u64>) -> Result<Tree, u64> {
     let numbers: Vec<usize> = members(set).collect();
     let s = numbers.len();
     let anew: Vec<u8> = triples(s).map(|(a, b, c)| table[index(numbers[a], numbers[b], numbers[c])]).collect();
     if s <= 5 {
         some_tree_holds(s, all(s), &anew);
     }
-    match Entered::from_table(s, &anew).build(all(s), joined) {
+    let named_back = |set| members(set).fold(0, |back, i| back | one(numbers[i]));
+    let mut visited_anew = Vec::new();
+    let built = Entered::from_table(s, &anew).build_visiting(all(s), joined, &mut visited_anew);
+    visited.extend(visited_anew.into_iter().map(named_back));
+    match built {
         Ok(tree) => Ok(tree.renamed(&|i| numbers[i])),
-        Err(stop) => Err(members(stop).fold(0, |stop, i| stop | one(numbers[i]))),
+        Err(stop) => Err(named_back(stop)),
     }
 }

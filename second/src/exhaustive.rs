@@ -1,9 +1,9 @@
-//! All tables, sets, candidates and short lists up to four species, tables with fans, parts of what trees of five species hold, all
-//! short texts, those at the limits, and all rooms for a text.
+//! All tables, sets, candidates and short lists up to four species, tables with fans, parts of what trees of five species hold, trees
+//! of every number of species to be built, all short texts, those at the limits, and all rooms for a text.
 
 use crate::calls::Call;
 use crate::grammar::place;
-use crate::limits::{cases, ladder};
+use crate::limits::{cases, halves, ladder};
 use crate::newick;
 use crate::operations::PLACES;
 use crate::trees::{all_trees, subsets, Tree};
@@ -389,6 +389,35 @@ pub fn sets(push: &mut dyn FnMut(Call) -> bool) -> bool {
     true
 }
 
+/// A nested tree, one in halves and a star, each of every number of species: over all n species, and over every other one of
+/// more. Each is built from its own table, and from that with a quarrel about the first triple, one in the middle, and the
+/// last.
+pub fn looked_at(push: &mut dyn FnMut(Call) -> bool) -> bool {
+    (1..=64).all(|s| {
+        let nested = if s == 1 { "0;".to_string() } else { ladder(s - 1) };
+        let texts = [nested, format!("{};", halves(0, s))];
+        let mut trees = texts.map(|text| newick::read(text.as_bytes()).expect("a tree")).to_vec();
+        trees.push(if s == 1 { Tree::Leaf(0) } else { Tree::Inner((0..s).map(Tree::Leaf).collect()) });
+        trees.iter().all(|tree| {
+            built_with_quarrels(s, tree, push)
+                && (s > 32 || built_with_quarrels(2 * s, &tree.renamed(&|species| 2 * species), push))
+        })
+    })
+}
+
+fn built_with_quarrels(n: usize, tree: &Tree, push: &mut dyn FnMut(Call) -> bool) -> bool {
+    let (set, own) = (tree.species(), tree.table(n));
+    let spoken: Vec<usize> = (0..own.len()).filter(|&place| own[place] != 0).collect();
+    let mut tables = vec![own.clone()];
+    for &place in [spoken.first(), spoken.get(spoken.len() / 2), spoken.last()].into_iter().flatten() {
+        let mut table = own.clone();
+        table[place] |= 3;
+        tables.push(table);
+    }
+    let room = vec![9; 4 * set.count_ones() as usize - 2];
+    tables.into_iter().flat_map(|table| Call::both_builds(n as u64, set, table, room.clone())).all(push)
+}
+
 /// Tables of three and four species, and of none; some have a byte that is too large.
 const SMALL_TABLES: [&[u8]; 11] =
     [&[], &[0], &[8], &[16], &[3], &[0; 4], &[0, 0, 0, 1], &[0, 8, 0, 0], &[15, 0, 0, 17], &[3, 0, 0, 0], &[0; 5]];
@@ -491,12 +520,6 @@ fn turned(tree: &Tree) -> Tree {
 /// A text of every shape of 64 species, two of them with 308 bytes, which is the most; and some of few species. Each
 /// has its children in house order.
 fn written() -> Vec<String> {
-    fn halves(from: usize, to: usize) -> String {
-        match to - from {
-            1 => from.to_string(),
-            more => format!("({},{})", halves(from, from + more / 2), halves(from + more / 2, to)),
-        }
-    }
     let listed = |species: Vec<usize>| species.iter().map(usize::to_string).collect::<Vec<_>>().join(",");
     let few = ["0;", "9;", "10;", "63;", "(0,1);", "(9,10);", "((0,1),2);", "(0,(1,2),3);", "((0,62),(1,63));"];
     let mut texts = vec![ladder(63), format!("{};", halves(0, 64))];

@@ -9,6 +9,14 @@ pub fn ladder(k: usize) -> String {
     format!("{}0,1){outside};", "(".repeat(k))
 }
 
+/// The species from one on and below another, in halves of halves.
+pub fn halves(from: usize, to: usize) -> String {
+    match to - from {
+        1 => from.to_string(),
+        more => format!("({},{})", halves(from, from + more / 2), halves(from + more / 2, to)),
+    }
+}
+
 /// 63 open brackets.
 fn brackets(cases: &mut Vec<Case>) {
     let mut case = |text: String, place| cases.push((text.into_bytes(), place));

@@ -30,7 +30,7 @@ use std::path::PathBuf;
 use std::process::ExitCode;
 use std::time::Instant;
 
-use compare::{shown, Comparison, Counts, MANY_DROPPED};
+use compare::{shown, Comparison, Counts, FEWER_LOOKED_AT, MANY_DROPPED, MOST_LOOKED_AT, NONE_LOOKED_AT};
 use inputs::Inputs;
 use programs::{Feed, Program, Programs};
 
@@ -54,6 +54,13 @@ const NUMBERS: [(char, &str, &[u8], &[&str]); 10] = [
     ('w', "render", &[0, 2, 5, 6, 9], &FAULTS),
 ];
 const FAULTS: [&str; 4] = ["parent", "species", "seen", "only"];
+
+/// How many triples a build looks at with each number; a set that stops has three species or more.
+const LOOKED: [(char, &str, u8, &[&str]); 3] = [
+    ('b', "build", 0, &[NONE_LOOKED_AT, FEWER_LOOKED_AT, MOST_LOOKED_AT]),
+    ('b', "build", 10, &[FEWER_LOOKED_AT, MOST_LOOKED_AT]),
+    ('v', "veto", 0, &[NONE_LOOKED_AT, FEWER_LOOKED_AT, MOST_LOOKED_AT]),
+];
 
 fn main() -> ExitCode {
     let words: Vec<String> = std::env::args().skip(1).collect();
@@ -187,6 +194,11 @@ fn compare_all(programs: Programs, calls: u64, seed: u64, texts: usize) -> ExitC
             exhaustive::sets(push);
         });
     });
+    part(&mut comparison, "triples looked at", |c| {
+        c.calls(|push| {
+            exhaustive::looked_at(push);
+        });
+    });
     part(&mut comparison, &format!("all texts of up to {texts} signs"), |c| {
         c.calls(|push| {
             exhaustive::texts(texts, push);
@@ -225,7 +237,7 @@ fn compare_all(programs: Programs, calls: u64, seed: u64, texts: usize) -> ExitC
     });
     println!("second: among the random calls {} with more than 48 species, {} slow checks", made.1, made.0);
 
-    println!("second: how often each number came, each byte in a table that was listed, and so many sets dropped, among the fixed calls and among the random ones:");
+    println!("second: how often each number came, each byte in a table that was listed, so many sets dropped, and so many triples looked at, among the fixed calls and among the random ones:");
     let never = tell_counts(&fixed, &comparison.counts);
     for what in &never {
         println!("second: never came among the random calls: {what}");
@@ -251,8 +263,8 @@ fn part(comparison: &mut Comparison, name: &str, run: impl FnOnce(&mut Compariso
     );
 }
 
-/// Prints how often each number came, each fault, each byte that was listed, and so many sets dropped; returns those that
-/// never did among the random calls.
+/// Prints how often each number came, each fault, each byte that was listed, so many sets dropped, and so many triples
+/// looked at; returns those that never did among the random calls.
 fn tell_counts(fixed: &Counts, random: &Counts) -> Vec<String> {
     let mut never = Vec::new();
     for (letter, name, numbers, faults) in NUMBERS {
@@ -268,6 +280,10 @@ fn tell_counts(fixed: &Counts, random: &Counts) -> Vec<String> {
     let dropped =
         (0..=MANY_DROPPED).map(|count| (format!("{count}{}", if count == MANY_DROPPED { "+" } else { "" }), count));
     never.extend(tell_line("sets dropped:", dropped, &fixed.dropped, &random.dropped));
+    for (letter, name, number, words) in LOOKED {
+        let keys = words.iter().map(|&word| (word.to_string(), (letter, number, word)));
+        never.extend(tell_line(&format!("{name:<6} {number:>2}, triples:"), keys, &fixed.looked, &random.looked));
+    }
     never
 }
 

@@ -1,10 +1,11 @@
 //! Runs by name, each with its outcome written out by hand: those of document 01, worked examples of
 //! its source papers, Newick texts, read and written (document 02, T-01 and T-02), sets that occur (T-03), fans in
-//! tables (T-05), builds with a veto (T-06), trees that are loosened (T-07), and the check in the papers' own words (T-08).
+//! tables (T-05), builds with a veto (T-06), trees that are loosened (T-07), the check in the papers' own words (T-08), and the
+//! triples that a build looks at (T-09).
 
 use crate::calls::Call;
 use crate::compare::{shown, split, Comparison};
-use crate::limits::ladder;
+use crate::limits::{halves, ladder};
 use crate::newick;
 use crate::programs::{Feed, Program, Run};
 use crate::shelf::shelf;
@@ -162,13 +163,13 @@ const CHERRY: [u8; 10] = [255, 255, 0, 255, 1, 0, 1, 1, 0, 2];
 const FAN: [u8; 8] = [255, 255, 0, 0, 0, 1, 0, 2];
 
 fn document_01(runs: &mut Runs) {
-    runs.build("n=1, empty table", 1, &[], "0 1 | 255 0");
-    runs.build("n=2", 2, &[], "0 3 | 255 255 0 0 0 1");
-    runs.build("n=3, table 0", 3, &[0], "0 4 | 255 255 0 0 0 1 0 2 9 9");
-    runs.build("n=4, table 1 0 0 1", 4, &[1, 0, 0, 1], "0 7 | 255 255 0 255 1 255 2 0 2 1 1 2 0 3");
+    runs.build("n=1, empty table", 1, &[], "0 1 0 | 255 0");
+    runs.build("n=2", 2, &[], "0 3 0 | 255 255 0 0 0 1");
+    runs.build("n=3, table 0", 3, &[0], "0 4 1 | 255 255 0 0 0 1 0 2 9 9");
+    runs.build("n=4, table 1 0 0 1", 4, &[1, 0, 0, 1], "0 7 5 | 255 255 0 255 1 255 2 0 2 1 1 2 0 3");
     runs.check("n=4, table 1 0 0 1: the check passes that tree", 4, &[1, 0, 0, 1], &NESTED, "0");
-    runs.build("n=4, table 3 0 0 0", 4, &[3, 0, 0, 0], "10 7 | 9 9 9 9 9 9 9 9 9 9 9 9 9 9");
-    runs.build("n=4, table 1 2 0 1", 4, &[1, 2, 0, 1], "10 15 | 9 9 9 9 9 9 9 9 9 9 9 9 9 9");
+    runs.build("n=4, table 3 0 0 0", 4, &[3, 0, 0, 0], "10 7 5 | 9 9 9 9 9 9 9 9 9 9 9 9 9 9");
+    runs.build("n=4, table 1 2 0 1", 4, &[1, 2, 0, 1], "10 15 4 | 9 9 9 9 9 9 9 9 9 9 9 9 9 9");
     runs.check("n=3, ((0,1),2), table 2", 3, &[2], &CHERRY, "11 0 2");
     runs.check("n=3, ((0,1),2), table 3", 3, &[3], &CHERRY, "11 0 3");
     runs.check("n=3, ((0,1),2), table 0", 3, &[0], &CHERRY, "12 0");
@@ -191,7 +192,7 @@ fn document_01(runs: &mut Runs) {
         (6, 63),
         &papers,
         &[1, 1, 0, 0, 1, 0, 0, 4, 4, 0, 1, 0, 0, 4, 4, 0, 4, 4, 0, 4],
-        Built::Tree(10, "255 255 0 255 1 0 1 1 0 2 0 255 5 3 5 255 7 4 7 5", "12 9"),
+        Built::Tree(10, 21, "255 255 0 255 1 0 1 1 0 2 0 255 5 3 5 255 7 4 7 5", "12 9"),
     );
     // 64 species and 65
     let zeros = vec![0; 41_664];
@@ -212,8 +213,8 @@ fn document_01(runs: &mut Runs) {
     runs.call("64 species, into house order", order(64), "0 1 | 255 63");
     runs.call("65 species, into house order", order(65), "2 | 9 9");
     let build = |n: u64| Call::Build { n, set: u64::MAX, table: zeros.clone(), room: vec![9; 254] };
-    runs.call("64 species, built", build(64), &format!("0 65 | 255 255{star}{behind}"));
-    runs.call("65 species, built", build(65), &format!("2 |{}", " 9".repeat(254)));
+    runs.call("64 species, built", build(64), &format!("0 65 41664 | 255 255{star}{behind}"));
+    runs.call("65 species, built", build(65), &format!("2 0 |{}", " 9".repeat(254)));
     runs.check("64 species, checked", 64, &zeros, &[255, 63], "0");
     runs.check("65 species, checked", 65, &zeros, &[255, 63], "2");
 
@@ -230,8 +231,8 @@ fn document_01(runs: &mut Runs) {
 
     // room of 14 bytes for n=4, and of 13
     let build = |room: usize| Call::Build { n: 4, set: 15, table: vec![0; 4], room: vec![9; room] };
-    runs.call("n=4, build room of 14 bytes", build(14), "0 5 | 255 255 0 0 0 1 0 2 0 3 9 9 9 9");
-    runs.call("n=4, build room of 13 bytes", build(13), "9 | 9 9 9 9 9 9 9 9 9 9 9 9 9");
+    runs.call("n=4, build room of 14 bytes", build(14), "0 5 4 | 255 255 0 0 0 1 0 2 0 3 9 9 9 9");
+    runs.call("n=4, build room of 13 bytes", build(13), "9 0 | 9 9 9 9 9 9 9 9 9 9 9 9 9");
 
     // R is the entered triplets on triples that the candidate resolves, and no others
     runs.check("n=4, table 0 0 0 3, ((0,1),2)", 4, &[0, 0, 0, 3], &CHERRY, "12 0");
@@ -256,10 +257,11 @@ fn document_01(runs: &mut Runs) {
     runs.shelf("three bytes left over", &second(&[0, 2, 255, 0, 1, 2, 3]), "read 4 0 0\n");
 }
 
-/// What a build gives: the node count, the body and the check of it, or the stopping set.
+/// What a build gives: the node count, the triples looked at, the body and the check of it; or the stopping set, and the
+/// triples looked at.
 enum Built {
-    Tree(usize, &'static str, &'static str),
-    Stops(u64),
+    Tree(usize, usize, &'static str, &'static str),
+    Stops(u64, usize),
 }
 
 /// One collection, with n and the set that occurs: listed, built over that set, its built tree checked, and all of it by shelf.
@@ -270,16 +272,16 @@ fn row(runs: &mut Runs, name: &str, (n, set): (usize, u64), papers: &[&str], tab
     let build = format!("{name}: build");
     let room = 4 * set.count_ones() as usize - 2;
     match built {
-        Built::Tree(nodes, body, checked) => {
+        Built::Tree(nodes, looked, body, checked) => {
             let behind = " 9".repeat(room - 2 * nodes);
-            runs.build_over(&build, n, set, table, room, &format!("0 {nodes} | {body}{behind}"));
+            runs.build_over(&build, n, set, table, room, &format!("0 {nodes} {looked} | {body}{behind}"));
             let body_bytes: Vec<u8> = body.split(' ').map(|number| number.parse().expect("a byte")).collect();
             runs.check(&format!("{name}: check"), n, table, &body_bytes, checked);
             runs.shelf(name, &bytes, &format!("build 0 {nodes}\n{body}\ncheck {checked}\n"));
         }
-        Built::Stops(stop) => {
+        Built::Stops(stop, looked) => {
             let untouched = " 9".repeat(room);
-            runs.build_over(&build, n, set, table, room, &format!("10 {stop} |{untouched}"));
+            runs.build_over(&build, n, set, table, room, &format!("10 {stop} {looked} |{untouched}"));
             runs.shelf(name, &bytes, &format!("build 10 {stop}\n"));
         }
     }
@@ -293,7 +295,7 @@ fn papers(runs: &mut Runs) {
         (4, 15),
         &["((0,1),2)", "((1,2),3)"],
         &[1, 0, 0, 1],
-        Built::Tree(7, "255 255 0 255 1 255 2 0 2 1 1 2 0 3", "0"),
+        Built::Tree(7, 5, "255 255 0 255 1 255 2 0 2 1 1 2 0 3", "0"),
     );
 
     row(
@@ -302,7 +304,7 @@ fn papers(runs: &mut Runs) {
         (5, 31),
         &["((0,1),4)", "((2,3),4)"],
         &[0, 0, 0, 0, 1, 0, 0, 0, 0, 1],
-        Built::Tree(8, "255 255 0 255 1 0 1 1 0 255 4 2 4 3 0 4", "12 0"),
+        Built::Tree(8, 10, "255 255 0 255 1 0 1 1 0 255 4 2 4 3 0 4", "12 0"),
     );
 
     let table = [0, 1, 1, 0];
@@ -312,7 +314,7 @@ fn papers(runs: &mut Runs) {
         (4, 15),
         &["((0,1),3)", "((0,2),3)"],
         &table,
-        Built::Tree(6, "255 255 0 255 1 0 1 1 1 2 0 3", "0"),
+        Built::Tree(6, 5, "255 255 0 255 1 0 1 1 1 2 0 3", "0"),
     );
     for resolved in ["(((0,1),2),3)", "(((0,2),1),3)", "(((1,2),0),3)"] {
         runs.check(&format!("papers 3: check {resolved}"), 4, &table, &body(resolved), "12 0");
@@ -325,7 +327,7 @@ fn papers(runs: &mut Runs) {
         (6, 63),
         &["(((0,2),1),(4,5))", "(((0,3),1),2)"],
         &table,
-        Built::Stops(15),
+        Built::Stops(15, 24),
     );
     for (candidate, line) in
         [("((((0,3),1),2),(4,5))", "11 0 3"), ("((0,1,2,3),(4,5))", "12 7"), ("(((0,3),1,2),(4,5))", "0")]
@@ -340,12 +342,19 @@ fn papers(runs: &mut Runs) {
         (4, 15),
         &["(((0,3),1),2)", "(((0,1),2),3)"],
         &table,
-        Built::Stops(15),
+        Built::Stops(15, 4),
     );
     runs.check("papers 5: check ((0,1),2)", 4, &table, &CHERRY, "0");
 
     let table = [5, 1, 8, 8];
-    row(runs, "papers 6, ((A,B),C,X) and ((B,C),A)", (4, 15), &["((0,1),2,3)", "((1,2),0)"], &table, Built::Stops(7));
+    row(
+        runs,
+        "papers 6, ((A,B),C,X) and ((B,C),A)",
+        (4, 15),
+        &["((0,1),2,3)", "((1,2),0)"],
+        &table,
+        Built::Stops(7, 5),
+    );
     runs.check("papers 6: check ((0,1,2),3)", 4, &table, &body("((0,1,2),3)"), "12 2");
 
     let table = [1, 3, 6, 6, 3, 6, 6, 3, 3, 3, 5, 6, 6, 3, 3, 3, 5, 6, 6, 4];
@@ -355,7 +364,7 @@ fn papers(runs: &mut Runs) {
         (6, 63),
         &["(((0,3),1),((2,5),4))", "(((0,4),(1,5)),(2,3))"],
         &table,
-        Built::Stops(63),
+        Built::Stops(63, 20),
     );
     runs.check("papers 7: check ((0,1),2)", 6, &table, &CHERRY, "0");
 
@@ -365,7 +374,7 @@ fn papers(runs: &mut Runs) {
         (6, 63),
         &["((0,1),2)", "((0,1),(3,(4,5)))"],
         &[1, 1, 0, 0, 1, 0, 0, 4, 4, 0, 1, 0, 0, 4, 4, 0, 4, 4, 0, 4],
-        Built::Tree(10, "255 255 0 255 1 0 1 1 0 2 0 255 5 3 5 255 7 4 7 5", "12 9"),
+        Built::Tree(10, 21, "255 255 0 255 1 0 1 1 0 2 0 255 5 3 5 255 7 4 7 5", "12 9"),
     );
 }
 
@@ -404,62 +413,62 @@ fn sets_returned(runs: &mut Runs) {
 /// The build over a set, and its refusals in their order.
 fn sets_built(runs: &mut Runs) {
     let mut build = |n, set, table: &[u8], room, told: &str| runs.built(n, set, table, room, told);
-    build(4, 15, &[0, 0, 0, 0], 14, "0 5 | 255 255 0 0 0 1 0 2 0 3 9 9 9 9");
-    build(4, 11, &[0, 0, 0, 0], 10, "0 4 | 255 255 0 0 0 1 0 3 9 9");
-    build(4, 11, &[0, 1, 0, 0], 10, "0 5 | 255 255 0 255 1 0 1 1 0 3");
-    build(4, 11, &[0, 2, 0, 0], 12, "0 5 | 255 255 0 255 1 0 1 3 0 1 9 9");
-    build(4, 14, &[0, 0, 0, 4], 10, "0 5 | 255 255 0 1 0 255 2 2 2 3");
-    build(4, 10, &[0, 0, 0, 0], 6, "0 3 | 255 255 0 1 0 3");
-    build(4, 8, &[0, 0, 0, 0], 2, "0 1 | 255 3");
-    build(2, 2, &[], 3, "0 1 | 255 1 9");
-    build(1, 1, &[], 2, "0 1 | 255 0");
+    build(4, 15, &[0, 0, 0, 0], 14, "0 5 4 | 255 255 0 0 0 1 0 2 0 3 9 9 9 9");
+    build(4, 11, &[0, 0, 0, 0], 10, "0 4 1 | 255 255 0 0 0 1 0 3 9 9");
+    build(4, 11, &[0, 1, 0, 0], 10, "0 5 1 | 255 255 0 255 1 0 1 1 0 3");
+    build(4, 11, &[0, 2, 0, 0], 12, "0 5 1 | 255 255 0 255 1 0 1 3 0 1 9 9");
+    build(4, 14, &[0, 0, 0, 4], 10, "0 5 1 | 255 255 0 1 0 255 2 2 2 3");
+    build(4, 10, &[0, 0, 0, 0], 6, "0 3 0 | 255 255 0 1 0 3");
+    build(4, 8, &[0, 0, 0, 0], 2, "0 1 0 | 255 3");
+    build(2, 2, &[], 3, "0 1 0 | 255 1 9");
+    build(1, 1, &[], 2, "0 1 0 | 255 0");
     // 2, 7 and 8 come first
-    build(0, 1, &[], 2, "2");
-    build(65, 1, &[0; 10], 2, "2");
-    build(4, 0, &[0, 0, 0], 0, "7");
-    build(4, 0, &[0, 17, 0, 16], 0, "8 1");
-    build(4, 7, &[0, 0, 0, 16], 0, "8 3");
+    build(0, 1, &[], 2, "2 0");
+    build(65, 1, &[0; 10], 2, "2 0");
+    build(4, 0, &[0, 0, 0], 0, "7 0");
+    build(4, 0, &[0, 17, 0, 16], 0, "8 1 0");
+    build(4, 7, &[0, 0, 0, 16], 0, "8 3 0");
     // an empty set, or a bit at n or above
     for set in [0, 16, 31, 17, 1 << 63, (1 << 63) | 15, 1 << 32, u64::MAX] {
-        build(4, set, &[0, 0, 0, 0], 300, "15");
-        build(4, set, &[1, 0, 0, 0], 0, "15");
+        build(4, set, &[0, 0, 0, 0], 300, "15 0");
+        build(4, set, &[1, 0, 0, 0], 0, "15 0");
     }
-    build(1, 2, &[], 2, "15");
-    build(1, 3, &[], 6, "15");
+    build(1, 2, &[], 2, "15 0");
+    build(1, 3, &[], 6, "15 0");
     // a byte outside the set: the first one, and before the room
-    build(4, 7, &[1, 0, 0, 0], 10, "0 5 | 255 255 0 255 1 0 1 1 0 2");
-    build(4, 7, &[1, 0, 0, 1], 10, "16 3");
-    build(4, 7, &[7, 1, 0, 1], 10, "16 1");
-    build(4, 7, &[0, 0, 4, 0], 0, "16 2");
-    build(4, 14, &[2, 0, 0, 1], 10, "16 0");
-    build(4, 13, &[0, 0, 3, 7], 9, "16 3");
-    build(4, 3, &[0, 7, 0, 0], 6, "16 1");
-    build(3, 1, &[5], 2, "16 0");
+    build(4, 7, &[1, 0, 0, 0], 10, "0 5 1 | 255 255 0 255 1 0 1 1 0 2");
+    build(4, 7, &[1, 0, 0, 1], 10, "16 3 0");
+    build(4, 7, &[7, 1, 0, 1], 10, "16 1 0");
+    build(4, 7, &[0, 0, 4, 0], 0, "16 2 0");
+    build(4, 14, &[2, 0, 0, 1], 10, "16 0 0");
+    build(4, 13, &[0, 0, 3, 7], 9, "16 3 0");
+    build(4, 3, &[0, 7, 0, 0], 6, "16 1 0");
+    build(3, 1, &[5], 2, "16 0 0");
     // the room for the species of the set, whatever the body has; then the tree
-    build(4, 11, &[0, 0, 0, 0], 9, "9");
-    build(4, 11, &[0, 3, 0, 0], 9, "9");
-    build(4, 11, &[0, 3, 0, 0], 10, "10 11");
-    build(4, 8, &[0, 0, 0, 0], 1, "9");
-    build(5, 22, &[0, 0, 0, 0, 0, 0, 3, 0, 0, 0], 10, "10 22");
-    build(5, 23, &[0, 0, 0, 0, 0, 0, 3, 0, 0, 0], 14, "10 22");
+    build(4, 11, &[0, 0, 0, 0], 9, "9 0");
+    build(4, 11, &[0, 3, 0, 0], 9, "9 0");
+    build(4, 11, &[0, 3, 0, 0], 10, "10 11 1");
+    build(4, 8, &[0, 0, 0, 0], 1, "9 0");
+    build(5, 22, &[0, 0, 0, 0, 0, 0, 3, 0, 0, 0], 10, "10 22 1");
+    build(5, 23, &[0, 0, 0, 0, 0, 0, 3, 0, 0, 0], 14, "10 22 5");
     // 64 species: no bit is above them
     let zeros = vec![0; 41_664];
     let star: String = (0..64).map(|i| format!(" 0 {i}")).collect();
-    build(64, u64::MAX, &zeros, 254, &format!("0 65 | 255 255{star}{}", " 9".repeat(254 - 2 * 65)));
-    build(64, u64::MAX, &zeros, 253, "9");
-    build(64, 1 << 63, &zeros, 2, "0 1 | 255 63");
-    build(64, 3 << 62, &zeros, 6, "0 3 | 255 255 0 62 0 63");
-    build(64, 3 << 62, &zeros, 5, "9");
-    build(64, 0, &zeros, 254, "15");
-    build(63, 1 << 63, &zeros[..39_711], 254, "15");
-    build(63, u64::MAX, &zeros[..39_711], 254, "15");
-    build(63, 1 << 62, &zeros[..39_711], 2, "0 1 | 255 62");
+    build(64, u64::MAX, &zeros, 254, &format!("0 65 41664 | 255 255{star}{}", " 9".repeat(254 - 2 * 65)));
+    build(64, u64::MAX, &zeros, 253, "9 0");
+    build(64, 1 << 63, &zeros, 2, "0 1 0 | 255 63");
+    build(64, 3 << 62, &zeros, 6, "0 3 0 | 255 255 0 62 0 63");
+    build(64, 3 << 62, &zeros, 5, "9 0");
+    build(64, 0, &zeros, 254, "15 0");
+    build(63, 1 << 63, &zeros[..39_711], 254, "15 0");
+    build(63, u64::MAX, &zeros[..39_711], 254, "15 0");
+    build(63, 1 << 62, &zeros[..39_711], 2, "0 1 0 | 255 62");
     let mut last = zeros;
     last[41_663] = 1;
-    build(64, 7 << 61, &last, 10, "0 5 | 255 255 0 255 1 61 1 62 0 63");
-    build(64, u64::MAX >> 1, &last, 254, "16 41663");
+    build(64, 7 << 61, &last, 10, "0 5 1 | 255 255 0 255 1 61 1 62 0 63");
+    build(64, u64::MAX >> 1, &last, 254, "16 41663 0");
     last[41_663] = 5;
-    build(64, 7 << 61, &last, 10, "10 16140901064495857664");
+    build(64, 7 << 61, &last, 10, "10 16140901064495857664 1");
 }
 
 /// Collections with species that occur nowhere.
@@ -488,7 +497,7 @@ fn sets_on_the_shelf(runs: &mut Runs) {
         (7, 62),
         &["((1,2),5)", "((3,4),5)"],
         &table,
-        Built::Tree(8, "255 255 0 255 1 1 1 2 0 255 4 3 4 4 0 5", "12 3"),
+        Built::Tree(8, 10, "255 255 0 255 1 1 1 2 0 255 4 3 4 4 0 5", "12 3"),
     );
 }
 
@@ -537,36 +546,36 @@ fn fans_listed(runs: &mut Runs) {
 /// Tables with fans, and bytes over 15, to build from and to check against; fans on the shelf.
 fn fans_used(runs: &mut Runs) {
     let mut build = |n, set, table: &[u8], room, told: &str| runs.built(n, set, table, room, told);
-    build(3, 7, &[8], 10, "0 4 | 255 255 0 0 0 1 0 2 9 9");
-    build(3, 7, &[9], 10, "0 5 | 255 255 0 255 1 0 1 1 0 2");
-    build(3, 7, &[10], 10, "0 5 | 255 255 0 255 1 0 1 2 0 1");
-    build(3, 7, &[12], 10, "0 5 | 255 255 0 0 0 255 2 1 2 2");
+    build(3, 7, &[8], 10, "0 4 1 | 255 255 0 0 0 1 0 2 9 9");
+    build(3, 7, &[9], 10, "0 5 1 | 255 255 0 255 1 0 1 1 0 2");
+    build(3, 7, &[10], 10, "0 5 1 | 255 255 0 255 1 0 1 2 0 1");
+    build(3, 7, &[12], 10, "0 5 1 | 255 255 0 0 0 255 2 1 2 2");
     for byte in [11, 13, 14, 15] {
-        build(3, 7, &[byte], 10, "10 7");
-        build(3, 7, &[byte], 9, "9");
+        build(3, 7, &[byte], 10, "10 7 1");
+        build(3, 7, &[byte], 9, "9 0");
     }
     for byte in [16, 17, 24, 31, 32, 64, 128, 255] {
-        build(3, 7, &[byte], 10, "8 0");
-        build(3, 0, &[byte], 0, "8 0");
+        build(3, 7, &[byte], 10, "8 0 0");
+        build(3, 0, &[byte], 0, "8 0 0");
     }
-    build(4, 15, &[1, 8, 8, 1], 14, "0 7 | 255 255 0 255 1 255 2 0 2 1 1 2 0 3");
-    build(4, 15, &[8, 8, 8, 8], 14, "0 5 | 255 255 0 0 0 1 0 2 0 3 9 9 9 9");
-    build(4, 15, &[11, 8, 8, 8], 14, "10 7");
-    build(4, 15, &[9, 10, 8, 9], 14, "10 15");
-    build(4, 15, &[15, 15, 15, 16], 14, "8 3");
-    build(4, 7, &[8, 16, 0, 255], 10, "8 1");
+    build(4, 15, &[1, 8, 8, 1], 14, "0 7 5 | 255 255 0 255 1 255 2 0 2 1 1 2 0 3");
+    build(4, 15, &[8, 8, 8, 8], 14, "0 5 4 | 255 255 0 0 0 1 0 2 0 3 9 9 9 9");
+    build(4, 15, &[11, 8, 8, 8], 14, "10 7 5");
+    build(4, 15, &[9, 10, 8, 9], 14, "10 15 4");
+    build(4, 15, &[15, 15, 15, 16], 14, "8 3 0");
+    build(4, 7, &[8, 16, 0, 255], 10, "8 1 0");
     // a fan that reaches outside the set, after 15 and before 9
-    build(4, 7, &[0, 8, 0, 0], 10, "16 1");
-    build(4, 7, &[0, 8, 0, 0], 0, "16 1");
-    build(4, 7, &[9, 8, 0, 0], 10, "16 1");
-    build(4, 7, &[8, 0, 0, 0], 10, "0 4 | 255 255 0 0 0 1 0 2 9 9");
-    build(4, 11, &[8, 0, 8, 0], 10, "16 0");
-    build(4, 11, &[0, 8, 8, 1], 10, "16 2");
-    build(4, 13, &[0, 0, 8, 8], 10, "16 3");
-    build(4, 11, &[0, 8, 0, 0], 10, "0 4 | 255 255 0 0 0 1 0 3 9 9");
-    build(4, 11, &[0, 10, 0, 0], 10, "0 5 | 255 255 0 255 1 0 1 3 0 1");
-    build(4, 0, &[8, 8, 8, 8], 14, "15");
-    build(4, 31, &[8, 8, 8, 8], 14, "15");
+    build(4, 7, &[0, 8, 0, 0], 10, "16 1 0");
+    build(4, 7, &[0, 8, 0, 0], 0, "16 1 0");
+    build(4, 7, &[9, 8, 0, 0], 10, "16 1 0");
+    build(4, 7, &[8, 0, 0, 0], 10, "0 4 1 | 255 255 0 0 0 1 0 2 9 9");
+    build(4, 11, &[8, 0, 8, 0], 10, "16 0 0");
+    build(4, 11, &[0, 8, 8, 1], 10, "16 2 0");
+    build(4, 13, &[0, 0, 8, 8], 10, "16 3 0");
+    build(4, 11, &[0, 8, 0, 0], 10, "0 4 1 | 255 255 0 0 0 1 0 3 9 9");
+    build(4, 11, &[0, 10, 0, 0], 10, "0 5 1 | 255 255 0 255 1 0 1 3 0 1");
+    build(4, 0, &[8, 8, 8, 8], 14, "15 0");
+    build(4, 31, &[8, 8, 8, 8], 14, "15 0");
 
     for (byte, line) in [
         (8, "12 0"),
@@ -599,14 +608,14 @@ fn fans_used(runs: &mut Runs) {
         runs.check(&format!("n=4, {tree}, table {table:?}"), 4, &table, body, line);
     }
 
-    row(runs, "(0,1,2) of 3", (3, 7), &["(0,1,2)"], &[8], Built::Tree(4, "255 255 0 0 0 1 0 2", "0"));
+    row(runs, "(0,1,2) of 3", (3, 7), &["(0,1,2)"], &[8], Built::Tree(4, 1, "255 255 0 0 0 1 0 2", "0"));
     row(
         runs,
         "(0,1,2) and ((0,1),2)",
         (3, 7),
         &["(0,1,2)", "((0,1),2)"],
         &[9],
-        Built::Tree(5, "255 255 0 255 1 0 1 1 0 2", "0"),
+        Built::Tree(5, 1, "255 255 0 255 1 0 1 1 0 2", "0"),
     );
     row(
         runs,
@@ -614,7 +623,7 @@ fn fans_used(runs: &mut Runs) {
         (4, 15),
         &["((0,1),2,3)", "(0,1,2)"],
         &[9, 1, 8, 8],
-        Built::Tree(6, "255 255 0 255 1 0 1 1 0 2 0 3", "0"),
+        Built::Tree(6, 4, "255 255 0 255 1 0 1 1 0 2 0 3", "0"),
     );
     row(
         runs,
@@ -622,7 +631,7 @@ fn fans_used(runs: &mut Runs) {
         (5, 15),
         &["(0,1,3)", "(0,2)"],
         &[0, 8, 0, 0, 0, 0, 0, 0, 0, 0],
-        Built::Tree(5, "255 255 0 0 0 1 0 2 0 3", "0"),
+        Built::Tree(5, 4, "255 255 0 0 0 1 0 2 0 3", "0"),
     );
     row(
         runs,
@@ -630,7 +639,7 @@ fn fans_used(runs: &mut Runs) {
         (4, 7),
         &["(0,1,2)", "((0,1),2)", "((0,2),1)"],
         &[11, 0, 0, 0],
-        Built::Stops(7),
+        Built::Stops(7, 1),
     );
 }
 
@@ -638,67 +647,67 @@ fn fans_used(runs: &mut Runs) {
 fn vetoes(runs: &mut Runs) {
     let mut veto = |n, set, table: &[u8], room, told: &str| runs.vetoed(n, set, table, room, told);
     // no quarrel: as the plain build
-    veto(1, 1, &[], 2, "0 1 | 255 0");
-    veto(2, 3, &[], 6, "0 3 | 255 255 0 0 0 1");
-    veto(2, 2, &[], 3, "0 1 | 255 1 9");
-    veto(3, 7, &[0], 10, "0 4 | 255 255 0 0 0 1 0 2 9 9");
-    veto(3, 7, &[2], 10, "0 5 | 255 255 0 255 1 0 1 2 0 1");
-    veto(4, 15, &[1, 0, 0, 1], 14, "0 7 | 255 255 0 255 1 255 2 0 2 1 1 2 0 3");
-    veto(4, 15, &[1, 1, 4, 4], 14, "0 7 | 255 255 0 255 1 0 1 1 0 255 4 2 4 3");
-    veto(4, 11, &[0, 2, 0, 0], 12, "0 5 | 255 255 0 255 1 0 1 3 0 1 9 9");
+    veto(1, 1, &[], 2, "0 1 0 | 255 0");
+    veto(2, 3, &[], 6, "0 3 0 | 255 255 0 0 0 1");
+    veto(2, 2, &[], 3, "0 1 0 | 255 1 9");
+    veto(3, 7, &[0], 10, "0 4 1 | 255 255 0 0 0 1 0 2 9 9");
+    veto(3, 7, &[2], 10, "0 5 1 | 255 255 0 255 1 0 1 2 0 1");
+    veto(4, 15, &[1, 0, 0, 1], 14, "0 7 5 | 255 255 0 255 1 255 2 0 2 1 1 2 0 3");
+    veto(4, 15, &[1, 1, 4, 4], 14, "0 7 4 | 255 255 0 255 1 0 1 1 0 255 4 2 4 3");
+    veto(4, 11, &[0, 2, 0, 0], 12, "0 5 1 | 255 255 0 255 1 0 1 3 0 1 9 9");
     // a set that is joined: its species are leaves under it
     for byte in [3, 5, 6, 7, 11, 13, 14, 15] {
-        veto(3, 7, &[byte], 10, "0 4 | 255 255 0 0 0 1 0 2 9 9");
+        veto(3, 7, &[byte], 10, "0 4 1 | 255 255 0 0 0 1 0 2 9 9");
     }
-    veto(4, 15, &[3, 0, 0, 0], 14, "0 6 | 255 255 0 255 1 0 1 1 1 2 0 3 9 9");
-    veto(4, 15, &[0, 0, 0, 6], 14, "0 6 | 255 255 0 0 0 255 2 1 2 2 2 3 9 9");
-    veto(4, 15, &[1, 2, 0, 1], 14, "0 5 | 255 255 0 0 0 1 0 2 0 3 9 9 9 9");
-    veto(4, 15, &[7, 7, 7, 7], 15, "0 5 | 255 255 0 0 0 1 0 2 0 3 9 9 9 9 9");
+    veto(4, 15, &[3, 0, 0, 0], 14, "0 6 5 | 255 255 0 255 1 0 1 1 1 2 0 3 9 9");
+    veto(4, 15, &[0, 0, 0, 6], 14, "0 6 5 | 255 255 0 0 0 255 2 1 2 2 2 3 9 9");
+    veto(4, 15, &[1, 2, 0, 1], 14, "0 5 4 | 255 255 0 0 0 1 0 2 0 3 9 9 9 9");
+    veto(4, 15, &[7, 7, 7, 7], 15, "0 5 4 | 255 255 0 0 0 1 0 2 0 3 9 9 9 9 9");
     // all agree on 0 and 1, and the set of all four is joined: it is not split again
-    veto(4, 15, &[1, 1, 4, 2], 14, "0 5 | 255 255 0 0 0 1 0 2 0 3 9 9 9 9");
+    veto(4, 15, &[1, 1, 4, 2], 14, "0 5 4 | 255 255 0 0 0 1 0 2 0 3 9 9 9 9");
     // ((((0,1),2),3),4) and ((((0,2),1),3),4): they quarrel far down
     let deep = [3, 1, 1, 1, 1, 1, 1, 1, 1, 1];
-    veto(5, 31, &deep, 18, "0 8 | 255 255 0 255 1 255 2 0 2 1 2 2 1 3 0 4 9 9");
+    veto(5, 31, &deep, 18, "0 8 15 | 255 255 0 255 1 255 2 0 2 1 2 2 1 3 0 4 9 9");
     // 01|2 and 02|1, 34|5 and 35|4: two quarrels beside each other
     let mut beside = [0; 20];
     (beside[0], beside[19]) = (3, 3);
-    veto(6, 63, &beside, 22, "0 9 | 255 255 0 255 1 0 1 1 1 2 0 255 5 3 5 4 5 5 9 9 9 9");
+    veto(6, 63, &beside, 22, "0 9 22 | 255 255 0 255 1 0 1 1 1 2 0 255 5 3 5 4 5 5 9 9 9 9");
     // over a part of the species
-    veto(4, 11, &[0, 3, 0, 0], 10, "0 4 | 255 255 0 0 0 1 0 3 9 9");
-    veto(5, 23, &[0, 0, 0, 0, 0, 0, 3, 0, 0, 0], 14, "0 6 | 255 255 0 0 0 255 2 1 2 2 2 4 9 9");
+    veto(4, 11, &[0, 3, 0, 0], 10, "0 4 1 | 255 255 0 0 0 1 0 3 9 9");
+    veto(5, 23, &[0, 0, 0, 0, 0, 0, 3, 0, 0, 0], 14, "0 6 5 | 255 255 0 0 0 255 2 1 2 2 2 4 9 9");
     // the source papers' examples that quarrel
     let papers4 = [3, 2, 2, 2, 1, 1, 1, 0, 0, 0, 1, 1, 1, 0, 0, 0, 4, 4, 4, 0];
-    veto(6, 63, &papers4, 22, "0 9 | 255 255 0 255 1 0 1 1 1 2 1 3 0 255 6 4 6 5 9 9 9 9");
-    veto(4, 15, &[1, 3, 3, 3], 14, "0 5 | 255 255 0 0 0 1 0 2 0 3 9 9 9 9");
-    veto(4, 15, &[5, 1, 8, 8], 14, "0 6 | 255 255 0 255 1 0 1 1 1 2 0 3 9 9");
+    veto(6, 63, &papers4, 22, "0 9 24 | 255 255 0 255 1 0 1 1 1 2 1 3 0 255 6 4 6 5 9 9 9 9");
+    veto(4, 15, &[1, 3, 3, 3], 14, "0 5 4 | 255 255 0 0 0 1 0 2 0 3 9 9 9 9");
+    veto(4, 15, &[5, 1, 8, 8], 14, "0 6 5 | 255 255 0 255 1 0 1 1 1 2 0 3 9 9");
     let papers7 = [1, 3, 6, 6, 3, 6, 6, 3, 3, 3, 5, 6, 6, 3, 3, 3, 5, 6, 6, 4];
-    veto(6, 63, &papers7, 22, "0 7 | 255 255 0 0 0 1 0 2 0 3 0 4 0 5 9 9 9 9 9 9 9 9");
+    veto(6, 63, &papers7, 22, "0 7 20 | 255 255 0 0 0 1 0 2 0 3 0 4 0 5 9 9 9 9 9 9 9 9");
     // the refusals of the plain build, and never 10
-    veto(0, 1, &[], 2, "2");
-    veto(65, 1, &[3; 10], 2, "2");
-    veto(4, 0, &[3, 0, 0], 0, "7");
-    veto(4, 0, &[3, 17, 0, 16], 0, "8 1");
-    veto(4, 0, &[3, 0, 0, 0], 14, "15");
-    veto(4, 16, &[3, 0, 0, 0], 14, "15");
-    veto(4, u64::MAX, &[3, 0, 0, 0], 300, "15");
-    veto(4, 7, &[3, 1, 0, 0], 0, "16 1");
-    veto(4, 7, &[3, 8, 0, 0], 10, "16 1");
-    veto(4, 15, &[3, 0, 0, 0], 13, "9");
-    veto(3, 7, &[7], 9, "9");
-    veto(3, 4, &[0], 1, "9");
+    veto(0, 1, &[], 2, "2 0");
+    veto(65, 1, &[3; 10], 2, "2 0");
+    veto(4, 0, &[3, 0, 0], 0, "7 0");
+    veto(4, 0, &[3, 17, 0, 16], 0, "8 1 0");
+    veto(4, 0, &[3, 0, 0, 0], 14, "15 0");
+    veto(4, 16, &[3, 0, 0, 0], 14, "15 0");
+    veto(4, u64::MAX, &[3, 0, 0, 0], 300, "15 0");
+    veto(4, 7, &[3, 1, 0, 0], 0, "16 1 0");
+    veto(4, 7, &[3, 8, 0, 0], 10, "16 1 0");
+    veto(4, 15, &[3, 0, 0, 0], 13, "9 0");
+    veto(3, 7, &[7], 9, "9 0");
+    veto(3, 4, &[0], 1, "9 0");
     // 64 species
     let star: String = (0..64).map(|i| format!(" 0 {i}")).collect();
     let behind = " 9".repeat(254 - 2 * 65);
     for byte in [7, 15] {
-        veto(64, u64::MAX, &[byte; 41_664], 254, &format!("0 65 | 255 255{star}{behind}"));
+        veto(64, u64::MAX, &[byte; 41_664], 254, &format!("0 65 41664 | 255 255{star}{behind}"));
     }
-    veto(64, u64::MAX, &[7; 41_664], 253, "9");
+    veto(64, u64::MAX, &[7; 41_664], 253, "9 0");
     let mut last = [0; 41_664];
     last[41_663] = 5;
     let first: String = (0..61).map(|i| format!(" 0 {i}")).collect();
     let behind = " 9".repeat(254 - 2 * 66);
-    veto(64, u64::MAX, &last, 254, &format!("0 66 | 255 255{first} 0 255 62 61 62 62 62 63{behind}"));
-    veto(64, 7 << 61, &last, 10, "0 4 | 255 255 0 61 0 62 0 63 9 9");
+    veto(64, u64::MAX, &last, 254, &format!("0 66 41665 | 255 255{first} 0 255 62 61 62 62 62 63{behind}"));
+    veto(64, 7 << 61, &last, 10, "0 4 1 | 255 255 0 61 0 62 0 63 9 9");
 
     // PC passes; PI need not
     let wide = body("((0,1,2),3)");
@@ -707,6 +716,69 @@ fn vetoes(runs: &mut Runs) {
     runs.check("the veto build of papers 4, checked", 6, &papers4, &split, "12 7");
     let nested = body("(((0,1,2),3),4)");
     runs.check("the veto build of a quarrel far down, checked", 5, &deep, &nested, "0");
+}
+
+/// The triples that a build looks at: "for every set split, or found joined, the combinations of three of its species, added
+/// up", "over the sets visited in order, up to any stop".
+fn looked_at(runs: &mut Runs) {
+    // what the plain build and the veto build tell, in a room of exactly 4s - 2 bytes, and the tree
+    let mut both = |n: usize, set: u64, table: &[u8], plain: &str, veto: &str, tree: &str| {
+        let room = 4 * set.count_ones() as usize - 2;
+        let body = body(tree);
+        let written = format!("{}{}", spaced(&body), " 9".repeat(room - body.len()));
+        let told = |line: &str| if line.starts_with("0 ") { format!("{line} |{written}") } else { line.to_string() };
+        runs.built(n, set, table, room, &told(plain));
+        runs.vetoed(n, set, table, room, &told(veto));
+    };
+    // a set of two has no triple, and one species is not split
+    both(2, 3, &[], "0 3 0", "0 3 0", "(0,1)");
+    both(5, 16, &[0; 10], "0 1 0", "0 1 0", "4");
+    // 5 species: 10, 4 and 1, also where the last three are a star; 10 and 4; 10 and 1; 10 alone
+    both(5, 31, &[1; 10], "0 9 15", "0 9 15", "((((0,1),2),3),4)");
+    both(5, 31, &[8, 1, 1, 1, 1, 1, 1, 1, 1, 1], "0 8 15", "0 8 15", "(((0,1,2),3),4)");
+    both(5, 31, &[1, 1, 4, 4, 1, 1, 1, 1, 1, 1], "0 9 14", "0 9 14", "(((0,1),(2,3)),4)");
+    both(5, 31, &[1, 1, 1, 1, 1, 1, 1, 4, 4, 4], "0 9 11", "0 9 11", "(((0,1),2),(3,4))");
+    both(5, 31, &[0; 10], "0 6 10", "0 6 10", "(0,1,2,3,4)");
+    // the set that stops counts; what the plain build does not come to does not: 01|2 and 02|1, 34|5 and 35|4
+    let mut beside = [0; 20];
+    (beside[0], beside[19]) = (3, 3);
+    both(6, 63, &beside, "10 7 21", "0 9 22", "((0,1,2),(3,4,5))");
+    // {0,1,2} stops below {0,1,2,3}, which 23|4 joins: 35, 4 and 1; {4,5,6} comes later
+    let mut deep = [0; 35];
+    (deep[0], deep[9], deep[34]) = (3, 1, 3);
+    both(7, 127, &deep, "10 7 40", "0 11 41", "(((0,1,2),3),(4,5,6))");
+    // 01|2 alone, and 12|4: {0,1,2,3} becomes a tree before {4,5,6} stops: 35, 4 and 1
+    (deep[0], deep[6]) = (1, 1);
+    both(7, 127, &deep, "10 112 40", "0 11 40", "(((0,1),2,3),(4,5,6))");
+    // of 9 species only those of the set count: 10 and 1; 10 and 4
+    let mut part = vec![0; 84];
+    part[choose(8, 3) + choose(6, 2) + 4] = 3;
+    both(9, 0b1_0101_0101, &part, "10 336 11", "0 7 11", "(0,2,(4,6,8))");
+    part.fill(0);
+    for (a, b, c) in [(0, 2, 8), (2, 4, 8), (4, 6, 8)] {
+        part[choose(c, 3) + choose(b, 2) + a] = 1;
+    }
+    both(9, 0b1_0101_0101, &part, "0 7 14", "0 7 14", "((0,2,4,6),8)");
+
+    // 64 species, fully nested: C(65,4). With 01|2 and 02|1 the last set stops, and all is looked at
+    let nested = ladder(63);
+    let nested = nested.trim_end_matches(';');
+    let mut table = vec![1; 41_664];
+    both(64, u64::MAX, &table, "0 127 677040", "0 127 677040", nested);
+    table[0] = 3;
+    let joined = nested.replacen("((0,1),2)", "(0,1,2)", 1);
+    both(64, u64::MAX, &table, "10 7 677040", "0 126 677040", &joined);
+    // all that can be entered: the first set stops, C(64,3)
+    table.fill(7);
+    both(64, u64::MAX, &table, "10 18446744073709551615 41664", "0 65 41664", &star_of_64());
+    // the star; and halves of halves: 41,664 and 2 times 4,960, 4 times 560, 8 times 56, 16 times 4
+    for byte in [0, 8] {
+        table.fill(byte);
+        both(64, u64::MAX, &table, "0 65 41664", "0 65 41664", &star_of_64());
+    }
+    let balanced = halves(0, 64);
+    let table = newick::read(format!("{balanced};").as_bytes()).expect("a tree").table(64);
+    both(64, u64::MAX, &table, "0 127 54336", "0 127 54336", &balanced);
 }
 
 /// Trees that are loosened.
@@ -1126,6 +1198,7 @@ fn all_runs() -> Runs {
     fans_listed(&mut runs);
     fans_used(&mut runs);
     vetoes(&mut runs);
+    looked_at(&mut runs);
     loosened(&mut runs);
     loosening_refused(&mut runs);
     own_words(&mut runs);

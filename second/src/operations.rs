@@ -1,4 +1,4 @@
-//! The ten operations (document 01, "Numbers handed back", and document 02, T-01 to T-03 and T-05 to T-08).
+//! The ten operations (document 01, "Numbers handed back", and document 02, T-01 to T-03 and T-05 to T-09).
 
 use crate::entered::{build_numbered_anew, some_tree_holds, Entered, Joined};
 use crate::grammar::{self, LONGEST_SEARCHED};
@@ -217,42 +217,97 @@ fn buildable(n: u64, set: u64, table: &[u8], room: &[u8]) -> Result<(usize, Vec<
     Ok((n, without_fans(table)))
 }
 
-/// The tree on a set, or the set that stops, found twice where the set has not all the species.
-fn built(n: usize, set: u64, entered: &[u8], joined: Joined) -> Result<Tree, u64> {
-    let built = Entered::from_table(n, entered).build(set, joined);
+/// What a build comes to: the tree on a set, or the set that stops; and the sets that were split or found joined, in order,
+/// up to any stop.
+#[derive(Debug, PartialEq, Eq)]
+struct Built {
+    tree: Result<Tree, u64>,
+    visited: Vec<u64>,
+}
+
+/// The build on a set, done twice where the set has not all the species.
+fn built(n: usize, set: u64, entered: &[u8], joined: Joined) -> Built {
+    let mut visited = Vec::new();
+    let tree = Entered::from_table(n, entered).build_visiting(set, joined, &mut visited);
+    let built = Built { tree, visited };
     if set != all(n) {
-        let anew = build_numbered_anew(set, entered, joined);
-        assert_eq!(built, anew, "the build, with the species as they are and numbered anew");
+        let mut visited = Vec::new();
+        let tree = build_numbered_anew(set, entered, joined, &mut visited);
+        assert_eq!(built, Built { tree, visited }, "the build, with the species as they are and numbered anew");
     }
     built
 }
 
-/// Builds the tree of a table over the species of a set, in the lent room. Returns the node count.
-pub fn build(n: u64, set: u64, table: &[u8], room: &mut [u8]) -> Result<usize, Refusal> {
-    let (n, entered) = buildable(n, set, table, room)?;
+/// The most triples that a build over s species looks at: "for s species it is at most C(s+1,4)".
+pub fn most_looked_at(s: usize) -> usize {
+    choose(s + 1, 4)
+}
+
+/// The triples that a build over a set looked at: "for every set split, or found joined, the combinations of three of its
+/// species, added up". They are at most as many as the request says; and as many exactly where each set with three species
+/// or more has one species less than the one before it.
+fn looked_at(set: u64, visited: &[u64]) -> usize {
+    let sizes = visited.iter().map(|set| set.count_ones() as usize);
+    let looked = sizes.clone().map(|size| choose(size, 3)).sum();
+    let s = set.count_ones() as usize;
+    assert!(looked <= most_looked_at(s), "{looked} triples looked at, of {s} species");
+    let nested = sizes.filter(|&size| size > 2).eq((3..=s).rev());
+    assert_eq!(looked == most_looked_at(s), nested, "the most triples are looked at, and the sets are nested");
+    looked
+}
+
+/// The same by the veto build's tree: its groups are the sets that both builds visit, and a leaf has no three species. The
+/// plain build visits those up to the first one that stops it.
+fn looked_at_by_groups(veto: &Tree, stop: Option<u64>) -> usize {
+    let groups = veto.groups();
+    let last = stop.map_or(groups.len() - 1, |stop| groups.iter().position(|&group| group == stop).expect("a group"));
+    groups[..=last].iter().map(|group| choose(group.count_ones() as usize, 3)).sum()
+}
+
+/// What both builds return: the node count or a refusal; and the triples that were looked at, which are 0 where nothing was
+/// built: "refusal 10 returns it, any other returns 0 for it".
+pub type Counted = (Result<usize, Refusal>, usize);
+
+/// Builds the tree of a table over the species of a set, in the lent room.
+pub fn build(n: u64, set: u64, table: &[u8], room: &mut [u8]) -> Counted {
+    let (n, entered) = match buildable(n, set, table, room) {
+        Ok(good) => good,
+        Err(refusal) => return (Err(refusal), 0),
+    };
     if n <= 5 {
         some_tree_holds(n, set, &entered); // holds the build against all trees
     }
-    match built(n, set, &entered, Joined::Stops) {
-        Err(set) => Err(Refusal::NoTree { set }),
-        Ok(tree) => put_body(&tree.preorder(), room),
+    let Built { tree, visited } = built(n, set, &entered, Joined::Stops);
+    let looked = looked_at(set, &visited);
+    let veto = built(n, set, &entered, Joined::Leaves).tree.expect("the veto build never stops");
+    assert_eq!(looked, looked_at_by_groups(&veto, tree.as_ref().err().copied()), "the triples, by sets and by groups");
+    match tree {
+        Err(set) => (Err(Refusal::NoTree { set }), looked),
+        Ok(tree) => (put_body(&tree.preorder(), room), looked),
     }
 }
 
-/// Builds with a veto: the same, but where the links join a set, its species become leaves. Returns the node count.
-pub fn veto(n: u64, set: u64, table: &[u8], room: &mut [u8]) -> Result<usize, Refusal> {
-    let (n, entered) = buildable(n, set, table, room)?;
-    let tree = built(n, set, &entered, Joined::Leaves).expect("the veto build never stops");
+/// Builds with a veto: the same, but where the links join a set, its species become leaves.
+pub fn veto(n: u64, set: u64, table: &[u8], room: &mut [u8]) -> Counted {
+    let (n, entered) = match buildable(n, set, table, room) {
+        Ok(good) => good,
+        Err(refusal) => return (Err(refusal), 0),
+    };
+    let vetoed = built(n, set, &entered, Joined::Leaves);
+    let looked = looked_at(set, &vetoed.visited);
+    if some_tree_holds(n, set, &entered) {
+        let plain = built(n, set, &entered, Joined::Stops);
+        assert_eq!(vetoed, plain, "the veto build is the plain one, and visits the same sets");
+    }
+    let tree = vetoed.tree.expect("the veto build never stops");
+    assert_eq!(looked, looked_at_by_groups(&tree, None), "the triples, by sets and by groups");
     let own = tree.triplets(n);
     assert_eq!(contradicted(n, &own, &resolved(&own, &entered)), None, "the veto build's tree passes PC");
-    if some_tree_holds(n, set, &entered) {
-        assert_eq!(Ok(&tree), built(n, set, &entered, Joined::Stops).as_ref(), "the veto build is the plain one");
-    }
     if set.count_ones() <= 5 {
         assert!(Entered::from_table(n, &entered).keeps_the_veto_rule(&tree), "the veto build's rule, node by node");
     }
     assert!(tree.species() == set && tree == tree.sorted());
-    put_body(&tree.preorder(), room)
+    (put_body(&tree.preorder(), room), looked)
 }
 
 /// Reads a Newick text into the lent room, as a body in the text's order. Returns the node count.

@@ -14,8 +14,8 @@ fn short_calls() -> Vec<(Call, &'static str)> {
         (Call::List { bytes: vec![1, 3, 0], table: vec![9] }, "0 3 0 0 | 0\n"),
         (Call::Enter { n: 3, records: vec![[2, 0, 1]], table: vec![9] }, "0 3 7 | 2\n"),
         (Call::Order { n: 1, body: vec![255, 0], room: vec![9, 9] }, "0 1 | 255 0\n"),
-        (Call::Build { n: 2, set: 2, table: vec![], room: vec![9, 9] }, "0 1 | 255 1\n"),
-        (Call::Veto { n: 3, set: 7, table: vec![3], room: vec![9; 10] }, "0 4 | 255 255 0 0 0 1 0 2 9 9\n"),
+        (Call::Build { n: 2, set: 2, table: vec![], room: vec![9, 9] }, "0 1 0 | 255 1\n"),
+        (Call::Veto { n: 3, set: 7, table: vec![3], room: vec![9; 10] }, "0 4 1 | 255 255 0 0 0 1 0 2 9 9\n"),
         (Call::Check { n: 3, table: vec![0], body: vec![255, 2] }, "0\n"),
         // a list of 62 places would make a long call
         (

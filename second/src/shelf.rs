@@ -23,7 +23,7 @@ pub fn shelf(input: &[u8]) -> String {
         }
     };
     let mut room = vec![0; 4 * n - 2];
-    let nodes = match build(n as u64, set, &table, &mut room) {
+    let nodes = match build(n as u64, set, &table, &mut room).0 {
         Ok(nodes) => nodes,
         Err(Refusal::NoTree { set }) => return format!("build 10 {set}\n"),
         // no species occurs

@@ -22,6 +22,8 @@ pub data Name : Type 0 where
   occurring-set : Name
   -- request T-07: "return the node count and how many were dropped"
   dropped-count : Name
+  -- request T-09: "the number of triples it looked at"
+  looked-count : Name
 
 -- a number with its name; or the fault of 6, with its own data
 pub data Value : Type 0 where

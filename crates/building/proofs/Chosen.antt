@@ -2,7 +2,7 @@
 use mathlib.Core.Bool.{Bool, false, false≢true, not, true}
 use mathlib.Core.List.{List}
 use mathlib.Core.Logic.{_↔_, _≢_}
-use mathlib.Core.Path.{_≡_, refl, sym}
+use mathlib.Core.Path.{_∙_, _≡_, refl, sym}
 use Prim.Native.Nat.{ℕ, _<_, _≤_, _^_}
 use native.Mathlib.Omega.{arith}
 use borrow.Author.Tests.{eqb-false, le-leb, le-ltb, leb-false, lt-leb, lt-ltb, ltb-false, ne-eqb}
@@ -27,11 +27,12 @@ use Rattle.answers.proofs.Answered.{pass-false, then-pass}
 use Rattle.answers.proofs.Good.{count-pass, room-pass}
 use Rattle.answers.specs.Inputs.{Count}
 use Rattle.answers.specs.Looks.{firstRefusal, lookBytes, lookCount, lookRoom, lookTable}
+use Rattle.answers.specs.declared.Look.{Look}
 use Rattle.answers.specs.declared.Look.the-variants.{Pass, Refuse}
 use Rattle.answers.specs.declared.Refusal.the-variants.{Outside}
 use Rattle.building.specs.Builds.{inputLooks}
 use Rattle.building.specs.GoodSet.{GoodSet, badSet, firstOutside, lookOutside, lookSet}
-use Rattle.building.proofs.Numbered.{not-empty}
+use Rattle.growing.proofs.Numbered.{not-empty}
 
 module _ (n s : ℕ) (g : GoodSet n s) where
   pub set-small : s < 2 ^ n
@@ -70,6 +71,10 @@ input-good n s t l e =
     (count-pass n .0 (a .0), set-pass n s .0 (g .0), room-pass (roomFor (size s)) l .0 (r .0))
 
 -- ---- as the code finds it
+
+-- the looks were answered with k, which passes: what building the set asks for is there
+pub input-asks : (n s : ℕ) (t : List ℕ) (l : ℕ) {k : Look} → k ≡ firstRefusal (inputLooks n s t l) → k ≡ Pass → (0 < size s) × (roomFor (size s) ≤ l)
+input-asks n s t l e p = let g = input-good n s t l (sym e ∙ p) in (g .1 .some, g .2)
 
 -- a bit at n or above is one that is not among all n species
 pub bad-subset : (n s : ℕ) → s ≢ 0 → (r : Bool) → (r ≡ true) ↔ Subset s (upto n) → not r ≡ badSet n s

@@ -20,16 +20,16 @@ use Rattle.answers.proofs.Answered.{first-append, then-pass}
 use Rattle.answers.specs.Looks.{answered, firstRefusal}
 use Rattle.answers.specs.declared.Look.{Look}
 use Rattle.answers.specs.declared.Look.the-variants.{Pass, Refuse}
-use Rattle.building.specs.Builds.{buildAnswer, buildDone, inputLooks, lookOutcome, nodesIn, outcome, outcomeBy}
+use Rattle.building.specs.Builds.{buildAnswer, buildDone, countedDone, countedRefused, inputLooks, lookOutcome, lookedBy, nodesIn, outcome, outcomeBy}
 use Rattle.building.specs.GoodSet.{GoodSet}
-use Rattle.building.specs.declared.Answer.the-variants.{Done, Refused}
+use Rattle.building.specs.declared.Answer.the-variants.{Done}
 use Rattle.answers.specs.declared.Written.{Written}
 use Rattle.building.proofs.Chosen.{input-good, set-below, set-small}
-use Rattle.building.proofs.Numbered.{not-empty}
+use Rattle.growing.proofs.Numbered.{not-empty}
 
-done-pass : (k : Look) (w v : Written) → answered Done Refused k v ≡ Done w → (k ≡ Pass) × (w ≡ v)
-done-pass Pass w v e = let z : v ≡ w = cc in (refl, sym z)
-done-pass (Refuse x) w v e = let z : _≡_ {A = ℕ} 0 1 = cc in absurd (omega arith)
+done-pass : (c : ℕ) (k : Look) (w v : Written) → answered (countedDone c) (countedRefused c) k v .answer ≡ Done w → (k ≡ Pass) × (w ≡ v)
+done-pass c Pass w v e = let z : v ≡ w = cc in (refl, sym z)
+done-pass c (Refuse x) w v e = let z : _≡_ {A = ℕ} 0 1 = cc in absurd (omega arith)
 
 module _ (v : Bool) (n s : ℕ) (t : List ℕ) (l : ℕ) (g : GoodSet n s) (room : roomFor (size s) ≤ l) where
   tree-fits : (T : Tree) → outcomeBy v n s t ≡ tree T → bodyLength (nodeCount T) ≤ l
@@ -44,14 +44,14 @@ module _ (v : Bool) (n s : ℕ) (t : List ℕ) (l : ℕ) (g : GoodSet n s) (room
   outcome-fits (stop U) e = omega arith
 
 -- The body of a tree that was built lies in the room, by either build v and whatever looks come behind those at what is handed in.
-answer-fits : (v : Bool) (n s : ℕ) (t : List ℕ) (l : ℕ) (later : List Look) (w : Written)
-    → answered Done Refused (firstRefusal (inputLooks n s t l ++ later)) (buildDone (outcomeBy v n s t)) ≡ Done w → bodyLength (w .nodes) ≤ l
-answer-fits v n s t l later w e =
-    let d = done-pass (firstRefusal (inputLooks n s t l ++ later)) w (buildDone (outcomeBy v n s t)) e in
+answer-fits : (v : Bool) (c n s : ℕ) (t : List ℕ) (l : ℕ) (later : List Look) (w : Written)
+    → answered (countedDone c) (countedRefused c) (firstRefusal (inputLooks n s t l ++ later)) (buildDone (outcomeBy v n s t)) .answer ≡ Done w → bodyLength (w .nodes) ≤ l
+answer-fits v c n s t l later w e =
+    let d = done-pass c (firstRefusal (inputLooks n s t l ++ later)) w (buildDone (outcomeBy v n s t)) e in
     let p = then-pass (firstRefusal (inputLooks n s t l)) _ .0 (sym (first-append (inputLooks n s t l) later) ∙ d .0) in
     let i = input-good n s t l (p .0) in
     omega (arith, outcome-fits v n s t l (i .1) (i .2) (outcomeBy v n s t) refl, ap (λ (x : Written). x .nodes) (d .1))
 
 -- of the plain build
-pub done-fits : (n s : ℕ) (t : List ℕ) (l : ℕ) (w : Written) → buildAnswer n s t l ≡ Done w → bodyLength (w .nodes) ≤ l
-done-fits n s t l = answer-fits false n s t l (lookOutcome (outcome n s t) ∷ [])
+pub done-fits : (n s : ℕ) (t : List ℕ) (l : ℕ) (w : Written) → buildAnswer n s t l .answer ≡ Done w → bodyLength (w .nodes) ≤ l
+done-fits n s t l = answer-fits false (lookedBy false n s t) n s t l (lookOutcome (outcome n s t) ∷ [])

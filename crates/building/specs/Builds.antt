@@ -1,23 +1,27 @@
--- Building the tree of a set of species, of a table. Document 01, "Numbers handed back"; request T-03.
-use mathlib.Core.Bool.{Bool, false}
+-- Building the tree of a set of species, of a table. Document 01, "Numbers handed back"; requests T-03 and T-09.
+use mathlib.Core.Bool.{Bool, cond, false}
 use mathlib.Core.List.{List, [], _∷_, _++_}
 use Prim.Native.Nat.{ℕ}
+use lib.Dec.{eqb}
 use lib.ListN.{length}
 use Rattle.sets.specs.Sets.{has, number, size}
 use Rattle.trees.specs.Build.{Outcome, tree, stop, buildBy}
+use Rattle.trees.specs.Visits.{looked}
 use Rattle.tables.specs.Bytes.{entered}
 use Rattle.bodies.specs.Nodes.{roomFor}
 use Rattle.bodies.specs.Draws.{nodeCount, bodyOf, written}
-use Rattle.answers.specs.Answers.{Told, node-count, told, value}
+use Rattle.answers.specs.Answers.{Told, looked-count, node-count, told, value}
 use Rattle.answers.specs.Looks.{Settled, after, answered, firstRefusal, lookBytes, lookCount, lookRoom, lookTable}
 use Rattle.answers.specs.Refusals.{refusalTold}
 use Rattle.answers.specs.declared.Look.{Look}
 use Rattle.answers.specs.declared.Look.the-variants.{Pass, Refuse}
+use Rattle.answers.specs.declared.Refusal.{Refusal}
 use Rattle.answers.specs.declared.Refusal.the-variants.{NoTree}
 use Rattle.answers.specs.declared.Written.{Written}
 use Rattle.building.specs.GoodSet.{lookOutside, lookSet}
 use Rattle.building.specs.declared.Answer.{Answer}
 use Rattle.building.specs.declared.Answer.the-variants.{Done, Refused}
+use Rattle.building.specs.declared.Counted.{Counted}
 
 -- what the plain build (false) or the veto build (true) comes to. Request T-03: "the build takes such a set"; it is s, of n species, and t the table
 unfoldable pub outcomeBy : Bool → ℕ → ℕ → List ℕ → Outcome
@@ -55,19 +59,42 @@ inputLooks n s t l = lookCount n ∷ lookTable n (length t) ∷ lookBytes t ∷ 
 abbrev pub buildLooks : ℕ → ℕ → List ℕ → ℕ → List Look
 buildLooks n s t l = inputLooks n s t l ++ (lookOutcome (outcome n s t) ∷ [])
 
--- the looks l, then 10: o is the room before, r the answer, o′ the room after
-abbrev pub Raises : Outcome → List Look → List ℕ → Answer → List ℕ → Type 0
-Raises R l o r o′ = Settled Done Refused (l ++ (lookOutcome R ∷ [])) (buildDone R) (buildRoom R o) o r o′
+-- ---- the triples looked at. Request T-09: "Each build now also returns the number of triples it looked at"
 
-abbrev pub Builds : ℕ → ℕ → List ℕ → List ℕ → Answer → List ℕ → Type 0
-Builds n s t o r o′ = Raises (outcome n s t) (inputLooks n s t (length o)) o r o′
+-- that number, for the plain build (false) or the veto build (true)
+unfoldable pub lookedBy : Bool → ℕ → ℕ → List ℕ → ℕ
+lookedBy v n s t = looked v (entered t) n (has s)
 
-abbrev pub buildAnswer : ℕ → ℕ → List ℕ → ℕ → Answer
-buildAnswer n s t l = answered Done Refused (firstRefusal (buildLooks n s t l)) (buildDone (outcome n s t))
+-- It stands beside the answer, where c triples were looked at: 0 returns it;
+abbrev pub countedDone : ℕ → Written → Counted
+countedDone c w = record { answer = Done w; looked = c }
+
+-- "refusal 10 returns it, any other returns 0 for it".
+abbrev pub countedRefused : ℕ → Refusal → Counted
+countedRefused c x = record { answer = Refused x; looked = cond (eqb (refusalTold x .number) 10) c 0 }
+
+-- ---- the contract
+
+-- c triples are looked at; the looks l, then 10: o is the room before, r the answer, o′ the room after
+abbrev pub Raises : ℕ → Outcome → List Look → List ℕ → Counted → List ℕ → Type 0
+Raises c R l o r o′ = Settled (countedDone c) (countedRefused c) (l ++ (lookOutcome R ∷ [])) (buildDone R) (buildRoom R o) o r o′
+
+abbrev pub Builds : ℕ → ℕ → List ℕ → List ℕ → Counted → List ℕ → Type 0
+Builds n s t o r o′ = Raises (lookedBy false n s t) (outcome n s t) (inputLooks n s t (length o)) o r o′
+
+abbrev pub buildAnswer : ℕ → ℕ → List ℕ → ℕ → Counted
+buildAnswer n s t l = answered (countedDone (lookedBy false n s t)) (countedRefused (lookedBy false n s t)) (firstRefusal (buildLooks n s t l)) (buildDone (outcome n s t))
 
 abbrev pub buildAfter : ℕ → ℕ → List ℕ → List ℕ → List ℕ
 buildAfter n s t o = after (firstRefusal (buildLooks n s t (length o))) (buildRoom (outcome n s t) o) o
 
-abbrev pub buildTold : Answer → Told
-buildTold (Done w) = told 0 (value node-count (w .nodes) ∷ [])
-buildTold (Refused x) = refusalTold x
+-- ---- what is told
+
+-- the answer alone
+abbrev pub answerTold : Answer → Told
+answerTold (Done w) = told 0 (value node-count (w .nodes) ∷ [])
+answerTold (Refused x) = refusalTold x
+
+-- and behind its values the number of triples looked at, whatever the answer is
+abbrev pub buildTold : Counted → Told
+buildTold r = told (answerTold (r .answer) .number) (answerTold (r .answer) .values ++ (value looked-count (r .looked) ∷ []))

@@ -1,7 +1,7 @@
 // The operations as C functions on numbers and slices: each returns document 01's number, and lays what is returned with it into `values`.
 ghost use mathlib.Core.Path.{_≡_};
-ghost use mathlib.Core.List.{[], _∷_, map};
-ghost use lib.ListN.{length, set};
+ghost use mathlib.Core.List.{map};
+ghost use lib.ListN.{length};
 ghost use Rattle.collections.specs.Reads.{readAnswer, readTold};
 ghost use Rattle.listing.specs.Lists.{listAnswer, listAfter};
 ghost use Rattle.entering.specs.Enters.{enterAnswer, enterAfter, enterTold};
@@ -13,81 +13,16 @@ ghost use Rattle.parsing.specs.Parses.{parseAnswer, parseAfter, parseTold};
 ghost use Rattle.rendering.specs.Renders.{renderAnswer, renderAfter, renderTold};
 ghost use Rattle.checking.specs.Checks.{checkAnswer, checkTold};
 ghost use Rattle.loosening.specs.Loosens.{lent, loosenAnswer, loosenAfter, loosenTold};
-ghost use Rattle.replies.specs.Replied.{replied};
 ghost use Rattle.tables.specs.Named.{named};
-ghost use Rattle.exports.specs.Codes.{faultCode, laid, Lays, Handed, tripleAnswer, tripleSpecies};
-
-// A fault by two numbers.
-struct FaultCode {
-    kind: usize,
-    data: usize,
-}
-
-fn fault_code(f: bodies::Fault) -> FaultCode
-    ensures { λ r. ⌜ (r .kind ∷ r .data ∷ []) ≡ faultCode f ⌝ }
-{
-    match f {
-        bodies::Fault::BadParent(p) => FaultCode {
-            kind: 1,
-            data: p as usize,
-        },
-        bodies::Fault::BadSpecies(s) => FaultCode {
-            kind: 2,
-            data: s as usize,
-        },
-        bodies::Fault::SeenBefore(i) => FaultCode { kind: 3, data: i },
-        bodies::Fault::OnlyChild => FaultCode { kind: 4, data: 0 },
-    }
-}
-
-// Writes x at place i, where there is room.
-fn put(values: &mut [usize], i: usize, x: usize)
-    ensures { λ _. ⌜ now (values .exit) ≡ set (now (values .entry)) i x ⌝ }
-{
-    if i < values.len() {
-        values[i] = x;
-    }
-}
-
-// Lays down a reply: writes its values, and answers its number.
-fn lay(s: replies::Reply, values: &mut [usize]) -> usize
-    ensures { λ r. ⌜ Lays (replied s) (now (values .entry)) r (now (values .exit)) ⌝ }
-{
-    match s {
-        replies::Reply::Bare(k) => k,
-        replies::Reply::One(k, x) => {
-            put(values, 0, x);
-            k
-        }
-        replies::Reply::Two(k, x, y) => {
-            put(values, 0, x);
-            put(values, 1, y);
-            k
-        }
-        replies::Reply::Three(k, x, y, z) => {
-            put(values, 0, x);
-            put(values, 1, y);
-            put(values, 2, z);
-            k
-        }
-        replies::Reply::Broken(x) => {
-            let fault = x.fault;
-            let f = fault_code(fault);
-            put(values, 0, x.tree);
-            put(values, 1, x.node);
-            put(values, 2, f.kind);
-            put(values, 3, f.data);
-            6
-        }
-    }
-}
+ghost use Rattle.laying.specs.Codes.{laid, Handed};
+ghost use Rattle.exports.specs.Asked.{tripleAnswer, tripleSpecies};
 
 // Reads a collection.
 #[no_mangle]
 pub extern "C" fn koodhaxil_read(b: &[u8], values: &mut [usize]) -> usize
     ensures { λ r. ⌜ Handed (readTold (readAnswer (now (b .entry)))) (now (values .entry)) r (now (values .exit)) ⌝ }
 {
-    lay(replies::read(collections::read(b)), values)
+    laying::lay(replies::read(collections::read(b)), values)
 }
 
 // Lists a collection into the table t. A refusal leaves every byte of t as it was.
@@ -97,7 +32,7 @@ pub extern "C" fn koodhaxil_list(b: &[u8], t: &mut [u8], values: &mut [usize]) -
     ensures { λ _. ⌜ now (t .exit) ≡ listAfter (now (b .entry)) (now (t .entry)) ⌝ }
 {
     let a = listing::list(b, t);
-    lay(replies::read(a), values)
+    laying::lay(replies::read(a), values)
 }
 
 // Enters triplets into the table t. A refusal leaves every byte of t as it was.
@@ -112,7 +47,7 @@ pub extern "C" fn koodhaxil_enter(
     ensures { λ _. ⌜ now (t .exit) ≡ enterAfter n (map spelled (now (records .entry))) (now (t .entry)) ⌝ }
 {
     let a = triplets::enter(n, records, t);
-    lay(replies::enter(a), values)
+    laying::lay(replies::enter(a), values)
 }
 
 // Puts a tree in house order, to the front of the room. A refusal leaves every byte of the room as it was.
@@ -127,7 +62,7 @@ pub extern "C" fn koodhaxil_order(
     ensures { λ _. ⌜ now (room .exit) ≡ orderAfter n (now (body .entry)) (now (room .entry)) ⌝ }
 {
     let a = ordering::order(n, body, room);
-    lay(replies::order(a), values)
+    laying::lay(replies::order(a), values)
 }
 
 // Builds the tree of a set of species, of the table t, to the front of the room. A refusal leaves every byte of the room as it was.
@@ -143,7 +78,7 @@ pub extern "C" fn koodhaxil_build(
     ensures { λ _. ⌜ now (room .exit) ≡ buildAfter n set (now (t .entry)) (now (room .entry)) ⌝ }
 {
     let a = building::build(n, set, t, room);
-    lay(replies::build(a), values)
+    laying::lay(replies::build(a), values)
 }
 
 // Makes the veto build of a set of species, of the table t, to the front of the room. A refusal leaves every byte of the room as it was.
@@ -159,7 +94,7 @@ pub extern "C" fn koodhaxil_veto(
     ensures { λ _. ⌜ now (room .exit) ≡ vetoAfter n set (now (t .entry)) (now (room .entry)) ⌝ }
 {
     let a = building::veto(n, set, t, room);
-    lay(replies::build(a), values)
+    laying::lay(replies::build(a), values)
 }
 
 // Checks the tree of a body against the table t.
@@ -167,7 +102,7 @@ pub extern "C" fn koodhaxil_veto(
 pub extern "C" fn koodhaxil_check(n: usize, t: &[u8], body: &[u8], values: &mut [usize]) -> usize
     ensures { λ r. ⌜ Handed (checkTold (checkAnswer n (now (t .entry)) (now (body .entry)))) (now (values .entry)) r (now (values .exit)) ⌝ }
 {
-    lay(replies::check(checking::check(n, t, body)), values)
+    laying::lay(replies::check(checking::check(n, t, body)), values)
 }
 
 // Reads a Newick text into a body, at the front of the room. A refusal leaves every byte of the room as it was.
@@ -182,7 +117,7 @@ pub extern "C" fn koodhaxil_parse(
     ensures { λ _. ⌜ now (room .exit) ≡ parseAfter n (now (text .entry)) (now (room .entry)) ⌝ }
 {
     let a = parsing::parse(n, text, room);
-    lay(replies::parse(a), values)
+    laying::lay(replies::parse(a), values)
 }
 
 // Writes a tree as Newick text to the front of the room. A refusal leaves every byte of the room as it was.
@@ -197,7 +132,7 @@ pub extern "C" fn koodhaxil_render(
     ensures { λ _. ⌜ now (room .exit) ≡ renderAfter n (now (body .entry)) (now (room .entry)) ⌝ }
 {
     let a = rendering::render(n, body, room);
-    lay(replies::render(a), values)
+    laying::lay(replies::render(a), values)
 }
 
 // Loosens the tree of a body by the table t: the final tree to the front of the room, and the dropped sets to the front of the list. A refusal leaves both as
@@ -215,7 +150,7 @@ pub extern "C" fn koodhaxil_loosen(
     ensures { λ _. ⌜ lent (now (room .exit)) (now (list .exit)) ≡ loosenAfter n (now (t .entry)) (now (body .entry)) (lent (now (room .entry)) (now (list .entry))) ⌝ }
 {
     let a = loosening::loosen(n, t, body, room, list);
-    lay(replies::loosen(a), values)
+    laying::lay(replies::loosen(a), values)
 }
 
 // Is there a triple with this index? It is a question, so that its answer is none of document 01's numbers: 1 for yes, with the three species laid into
@@ -228,9 +163,9 @@ pub extern "C" fn koodhaxil_triple(index: usize, values: &mut [usize]) -> usize
     let t = tables::triple_at(index);
     match t {
         tables::Named::Known(x) => {
-            put(values, 0, x.low);
-            put(values, 1, x.mid);
-            put(values, 2, x.high);
+            laying::put(values, 0, x.low);
+            laying::put(values, 1, x.mid);
+            laying::put(values, 2, x.high);
             1
         }
         tables::Named::Beyond => 0,

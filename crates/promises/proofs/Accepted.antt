@@ -22,7 +22,7 @@ use Rattle.bodies.specs.declared.Verdict.{Verdict}
 use Rattle.bodies.specs.declared.Verdict.the-variants.{Breaks, Fine}
 use Rattle.answers.proofs.Answered.{Each, first-among, first-append, first-on, first-stop, number-zero, pass-both, pass-false, pass-one, refuse-one, then-pass}
 use Rattle.answers.proofs.Good.{body-pass, count-pass, length-pass, room-pass, rules-pass, table-pass}
-use Rattle.answers.specs.Answers.{Told, Value}
+use Rattle.answers.specs.Answers.{Told, Value, node-count, value}
 use Rattle.answers.specs.Inputs.{Body, Count, Table}
 use Rattle.answers.specs.Looks.{firstRefusal, lookTold, lookBytes, lookCount, lookLength, lookRoom, lookRules, lookTable, refuseIf, ruled, wrongCount}
 use Rattle.answers.specs.Refusals.{refusalTold}
@@ -40,7 +40,8 @@ use Rattle.entering.specs.Enters.{enterLooks, firstBad}
 use Rattle.listing.specs.Lists.{listLooks}
 use Rattle.ordering.specs.Orders.{orderLooks}
 use Rattle.building.proofs.Chosen.{outside-pass, set-pass}
-use Rattle.building.specs.Builds.{inputLooks, lookOutcome, outcome}
+use Rattle.building.specs.Builds.{buildLooks, inputLooks, lookOutcome, nodesIn, outcome}
+use Rattle.building.specs.Vetoes.{vetoed}
 use Rattle.building.specs.GoodSet.{badSet, firstOutside, lookOutside, lookSet}
 use Rattle.checking.proofs.Passing.{pc-first}
 use Rattle.checking.specs.Checks.{candidateLooks, firstDiffers, firstUnsure, lookPC, triplesLooks}
@@ -269,6 +270,10 @@ ten : (R : Outcome) (vs : List Value) → Ten (lookTold (firstRefusal (lookOutco
 ten (tree T) vs = inl refl
 ten (stop U) vs = inr refl
 
+-- what 0 returns of the outcome, the number of triples looked at aside
+abbrev pub nodeValues : Outcome → List Value
+nodeValues R = value node-count (nodesIn R) ∷ []
+
 abbrev Eleven : ℕ → Type 0
 Eleven k = (k ≡ 0) ⊎ ((k ≡ 11) ⊎ (k ≡ 12))
 
@@ -312,9 +317,10 @@ accepts L keeps = record {
   listing = λ b t. zero-good (L .list b t .told) (firstRefusal (listLooks b (length t))) _ (keeps .listing b t .told-is) (list-pass b t);
   entering = λ n rs t. zero-good (L .enter n rs t .told) (firstRefusal (enterLooks n rs (length t))) _ (keeps .entering n rs t .told-is) (enter-pass n rs t);
   ordering = λ n b o. zero-good (L .order n b o .told) (firstRefusal (orderLooks n b (length o))) _ (keeps .ordering n b o .told-is) (order-pass n b o);
-  building = λ n u t o. input-good (inputLooks n u t (length o)) (lookOutcome (outcome n u t) ∷ []) _ (build-input n u t (length o)) Ten
-      (λ k q s. ⊎-elim (λ z. z) (λ z. absurd (not-input 10 refl k s z)) q) (ten (outcome n u t) _) (L .build n u t o .told) (keeps .building n u t o .told-is) (build-pass n u t o);
-  vetoing = λ n u t o. zero-good (L .veto n u t o .told) (firstRefusal (inputLooks n u t (length o))) _ (keeps .vetoing n u t o .told-is) (build-pass n u t o);
+  building = λ n u t o. subst (λ (r : Told). Ten (r .number) ↔ Buildable n u t o) (sym (keeps .building n u t o .told-is)) (input-good (inputLooks n u t (length o)) (lookOutcome (outcome n u t) ∷ []) _ (build-input n u t (length o)) Ten
+      (λ k q s. ⊎-elim (λ z. z) (λ z. absurd (not-input 10 refl k s z)) q) (ten (outcome n u t) _) (lookTold (firstRefusal (buildLooks n u t (length o))) (nodeValues (outcome n u t))) refl (build-pass n u t o));
+  vetoing = λ n u t o. subst (λ (r : Told). (r .number ≡ 0) ↔ Buildable n u t o) (sym (keeps .vetoing n u t o .told-is))
+      (zero-good (lookTold (firstRefusal (inputLooks n u t (length o))) (nodeValues (vetoed n u t))) (firstRefusal (inputLooks n u t (length o))) _ refl (build-pass n u t o));
   checking = λ n t b. input-good (candidateLooks n t b) (triplesLooks n t (treeOf b)) [] (check-input n t b) Eleven
       (λ k q s. ⊎-elim (λ z. z) (⊎-elim (λ z. absurd (not-input 11 refl k s z)) (λ z. absurd (not-input 12 refl k s z))) q) (eleven (ltb (firstDiffers n t (treeOf b)) (C n 3)) (ltb (firstUnsure n t (treeOf b)) (C n 3)) _ _) (L .check n t b) (keeps .checking n t b) (check-pass n t b);
   loosening = λ n t b o d. zero-good (L .loosen n t b o d .told) (firstRefusal (loosenLooks n t b (length o) (length d))) _ (keeps .loosening n t b o d .told-is) (loosen-pass n t b o d);
@@ -333,4 +339,4 @@ input-alone l vs h m f = go (firstRefusal l) refl
 
 -- so the veto build of any operations that keep demand 1 never answers 10
 pub vetoes-never-10 : (L : Operations) → Demand1 L → NeverTen (L .veto)
-vetoes-never-10 L d n u t o z = input-alone (inputLooks n u t (length o)) _ (build-input n u t (length o)) 10 refl (sym (ap (λ (r : Told). r .number) (d .vetoing n u t o .told-is)) ∙ z)
+vetoes-never-10 L d n u t o z = input-alone (inputLooks n u t (length o)) (nodeValues (vetoed n u t)) (build-input n u t (length o)) 10 refl (sym (ap (λ (r : Told). r .number) (d .vetoing n u t o .told-is)) ∙ z)

@@ -1,6 +1,6 @@
 -- Building from a good table: Aho's tree, with every species, which holds all that was entered, in house order; or a set that shows why there is
 -- none. Assumes nothing.
-use mathlib.Core.Bool.{So}
+use mathlib.Core.Bool.{So, false}
 use mathlib.Core.List.{List, [], _∷_}
 use mathlib.Core.Logic.{inl, inr}
 use mathlib.Core.Path.{_∙_, _≡_, ap, refl, subst, sym}
@@ -23,12 +23,12 @@ use Rattle.tables.proofs.Bytes.{entered-proper}
 use Rattle.tables.specs.Bytes.{entered}
 use Rattle.bodies.specs.Draws.{bodyOf, nodeCount, treeOf, written}
 use Rattle.answers.specs.Answers as Answers
-use Rattle.answers.specs.Answers.{node-count, told, value}
+use Rattle.answers.specs.Answers.{looked-count, node-count, told, value}
 use Rattle.answers.proofs.Answered.{first-on, then-nothing}
 use Rattle.answers.specs.Looks.{firstRefusal}
 use Rattle.building.proofs.Chosen.{set-below}
-use Rattle.building.proofs.Numbered.{not-empty}
-use Rattle.building.specs.Builds.{buildLooks, inputLooks, lookOutcome, outcome, outcomeBy}
+use Rattle.growing.proofs.Numbered.{not-empty}
+use Rattle.building.specs.Builds.{buildLooks, inputLooks, lookOutcome, lookedBy, outcome, outcomeBy}
 use Rattle.promises.specs.Operations.{Given, builds, gives}
 use Rattle.promises.specs.Inputs.{Buildable}
 use Rattle.promises.specs.Demand2.{BuildsRight, front}
@@ -38,14 +38,14 @@ use Rattle.promises.proofs.Wrote.{tree-back, tree-housed, tree-wrote}
 module _ (n s : ℕ) (t o : List ℕ) (g : Buildable n s t o) where
   -- ---- what the build came to, and what is given back
 
-  looked : (r : Outcome) → outcome n s t ≡ r → firstRefusal (buildLooks n s t (length o)) ≡ lookOutcome r
-  looked r e = first-on (inputLooks n s t (length o)) (lookOutcome (outcome n s t) ∷ []) (build-pass n s t o .1 g) ∙ then-nothing _ ∙ ap lookOutcome e
+  first-is : (r : Outcome) → outcome n s t ≡ r → firstRefusal (buildLooks n s t (length o)) ≡ lookOutcome r
+  first-is r e = first-on (inputLooks n s t (length o)) (lookOutcome (outcome n s t) ∷ []) (build-pass n s t o .1 g) ∙ then-nothing _ ∙ ap lookOutcome e
 
-  pub builds-tree : (T : Tree) → outcome n s t ≡ tree T → builds n s t o ≡ gives (told 0 (value node-count (nodeCount T) ∷ [])) (written o (bodyOf T))
-  builds-tree T e = rw (looked (tree T) e, e) refl
+  pub builds-tree : (T : Tree) → outcome n s t ≡ tree T → builds n s t o ≡ gives (told 0 (value node-count (nodeCount T) ∷ value looked-count (lookedBy false n s t) ∷ [])) (written o (bodyOf T))
+  builds-tree T e = rw (first-is (tree T) e, e) refl
 
-  pub builds-stop : (U : Species) → outcome n s t ≡ stop U → builds n s t o ≡ gives (told 10 (value Answers.stopping-set (number 64 U) ∷ [])) o
-  builds-stop U e = rw (looked (stop U) e) refl
+  pub builds-stop : (U : Species) → outcome n s t ≡ stop U → builds n s t o ≡ gives (told 10 (value Answers.stopping-set (number 64 U) ∷ value looked-count (lookedBy false n s t) ∷ [])) o
+  builds-stop U e = rw (first-is (stop U) e) refl
 
   -- ---- a tree
 
@@ -66,11 +66,12 @@ module _ (n s : ℕ) (t o : List ℕ) (g : Buildable n s t o) where
     back : treeOf (front (nodeCount T) (written o (bodyOf T))) ≡ T
     back = tree-back n s t o g T (built .0 .formed) (built .0 .species)
 
-    tree-built : BuildsRight (entered t) n (has s) o (gives (told 0 (value node-count (nodeCount T) ∷ [])) (written o (bodyOf T)))
+    tree-built : BuildsRight (entered t) n (has s) o (gives (told 0 (value node-count (nodeCount T) ∷ value looked-count (lookedBy false n s t) ∷ [])) (written o (bodyOf T)))
     tree-built = record {
       one-of = inl refl;
       keeps = λ z. record {
         count = nodeCount T;
+        looked = lookedBy false n s t;
         told-is = refl;
         wrote = tree-wrote n s t o g T (built .0 .formed) (built .0 .species);
         held = subst (λ (u : Tree). HeldBy (entered t) (has s) u) (sym back) (built .0);
@@ -102,13 +103,14 @@ module _ (n s : ℕ) (t o : List ℕ) (g : Buildable n s t o) where
           ∙ ap length (members-more n 64 U (g .count .most) stops-below),
     )
 
-    stop-built : BuildsRight (entered t) n (has s) o (gives (told 10 (value Answers.stopping-set (number 64 U) ∷ [])) o)
+    stop-built : BuildsRight (entered t) n (has s) o (gives (told 10 (value Answers.stopping-set (number 64 U) ∷ value looked-count (lookedBy false n s t) ∷ [])) o)
     stop-built = record {
       one-of = inr refl;
       keeps = λ z. absurd (omega (arith, z));
       refuses = ((λ z. build-refuses (entered t) (entered-proper t) n (has s) in-below (some .0) some-in .0 (U, e)), λ no. refl);
       shows = λ z. record {
         set = number 64 U;
+        looked = lookedBy false n s t;
         told-is = refl;
         inside = subst (λ (P : Species). Inside P (has s)) (sym is) (stops .inside);
         three = three;

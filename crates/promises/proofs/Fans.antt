@@ -13,6 +13,7 @@ use Rattle.trees.specs.Build.{Outcome, buildBy}
 use Rattle.trees.specs.Check.{differs, unsure}
 use Rattle.trees.specs.Loosen.{Loosened, loosened}
 use Rattle.trees.specs.Triplets.{Triplets, different}
+use Rattle.trees.specs.Visits.{looked}
 use Rattle.tables.proofs.Limits.{small-exactly}
 use Rattle.tables.proofs.Places.{bit-most}
 use Rattle.tables.specs.Bytes.{Small, bitOf, entered, placeOf}
@@ -28,9 +29,8 @@ use Rattle.answers.specs.declared.Look.{Look}
 use Rattle.answers.specs.declared.Look.the-variants.{Pass, Refuse}
 use Rattle.answers.specs.declared.Refusal.the-variants.{Contradicted, Unforced}
 use Rattle.building.proofs.Chosen.{outside-pass}
-use Rattle.building.specs.Builds.{buildDone, buildRoom, buildTold, lookOutcome, outcomeBy}
+use Rattle.building.specs.Builds.{buildDone, buildRoom, buildTold, countedDone, countedRefused, lookOutcome, lookedBy, outcomeBy}
 use Rattle.building.specs.GoodSet.{lookOutside, lookSet}
-use Rattle.building.specs.declared.Answer as Building
 use Rattle.checking.specs.Checks.{checkTold, firstDiffers, firstUnsure, lookPC, lookPI, triplesLooks}
 use Rattle.loosening.specs.Loosens.{Lent, eased, laidOut, lent, loosenTold, tally}
 use Rattle.loosening.specs.declared.Answer as Loosening
@@ -57,19 +57,25 @@ module _ (t t′ : List ℕ) (f : FansApart t t′) where
     unfolding outcomeBy
     same-outcome v = ap (λ (E : Triplets). buildBy v E n (has s)) same-entered
 
+    same-count : (v : Bool) → lookedBy v n s t ≡ lookedBy v n s t′
+    unfolding lookedBy
+    same-count v = ap (λ (E : Triplets). looked v E n (has s)) same-entered
+
     -- either build, with its looks at the outcome behind those at the input
     module _ (v : Bool) (last : Outcome → List Look) (o : List ℕ) where
       abbrev looks : ℕ → Look → Look → Outcome → List Look
       looks l k w R = (lookCount n ∷ lookTable n l ∷ k ∷ lookSet n s ∷ w ∷ lookRoom (roomFor (size s)) (length o) ∷ []) ++ last R
 
-      -- what is given where the table has l bytes, the looks at its bytes and outside the set come to k and w, and the outcome is R
-      abbrev given : ℕ → Look → Look → Outcome → Given
-      given l k w R = gives (buildTold (answered Building.the-variants.Done Building.the-variants.Refused (firstRefusal (looks l k w R)) (buildDone R))) (after (firstRefusal (looks l k w R)) (buildRoom R o) o)
+      -- what is given where the table has l bytes, the looks at its bytes and outside the set come to k and w, the outcome is R, and c triples are looked at
+      abbrev given : ℕ → Look → Look → Outcome → ℕ → Given
+      given l k w R c = gives (buildTold (answered (countedDone c) (countedRefused c) (firstRefusal (looks l k w R)) (buildDone R))) (after (firstRefusal (looks l k w R)) (buildRoom R o) o)
 
-      same-given : Enclosed n s t → Enclosed n s t′ → given (length t) (lookBytes t) (lookOutside n s t) (outcomeBy v n s t) ≡ given (length t′) (lookBytes t′) (lookOutside n s t′) (outcomeBy v n s t′)
+      same-given : Enclosed n s t → Enclosed n s t′
+          → given (length t) (lookBytes t) (lookOutside n s t) (outcomeBy v n s t) (lookedBy v n s t) ≡ given (length t′) (lookBytes t′) (lookOutside n s t′) (outcomeBy v n s t′) (lookedBy v n s t′)
       same-given e e′ =
-          ap₂ (λ (l : ℕ) (k : Look). given l k (lookOutside n s t) (outcomeBy v n s t)) (f .long) same-bytes
-          ∙ ap₂ (given (length t′) (lookBytes t′)) (outside-pass n s t .1 e ∙ sym (outside-pass n s t′ .1 e′)) (same-outcome v)
+          ap₂ (λ (l : ℕ) (k : Look). given l k (lookOutside n s t) (outcomeBy v n s t) (lookedBy v n s t)) (f .long) same-bytes
+          ∙ ap (λ (w : Look). given (length t′) (lookBytes t′) w (outcomeBy v n s t) (lookedBy v n s t)) (outside-pass n s t .1 e ∙ sym (outside-pass n s t′ .1 e′))
+          ∙ ap₂ (given (length t′) (lookBytes t′) (lookOutside n s t′)) (same-outcome v) (same-count v)
 
     same-built : (o : List ℕ) → Enclosed n s t → Enclosed n s t′ → builds n s t o ≡ builds n s t′ o
     same-built o e e′ = same-given false (λ R. lookOutcome R ∷ []) o e e′

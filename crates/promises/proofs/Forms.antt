@@ -2,7 +2,7 @@
 use mathlib.Core.Bool.{Bool, So, false, false≢true, true}
 use mathlib.Core.List.{List, [], _∷_, _++_, append-nil}
 use mathlib.Core.Logic.{_≢_, _⊎_, inl, inr, ⊎-elim}
-use mathlib.Core.Path.{_∙_, _≡_, ap, refl, subst, sym}
+use mathlib.Core.Path.{_∙_, _≡_, ap, ap₂, refl, subst, sym}
 use Prim.Native.Nat.{ℕ, zero, suc, _-_, _≤_}
 use native.Mathlib.Omega.{arith}
 use borrow.Author.Tests.{eqb-false, eqb-true}
@@ -24,8 +24,8 @@ use Rattle.bodies.specs.Faults.{fault}
 use Rattle.bodies.specs.Nodes.{badLength, bodyLength, longest, nodes}
 use Rattle.bodies.specs.declared.Verdict.{Verdict}
 use Rattle.bodies.specs.declared.Verdict.the-variants.{Breaks, Fine}
-use Rattle.answers.proofs.Answered.{Each, first-among, number-zero, refuse-one}
-use Rattle.answers.specs.Answers.{Told, node-count, node-number, stopping-set, told, tree-number, value}
+use Rattle.answers.proofs.Answered.{Each, first-among, refuse-one}
+use Rattle.answers.specs.Answers.{Told, Value, looked-count, node-count, node-number, stopping-set, told, tree-number, value}
 use Rattle.answers.specs.Inputs.{Count, Table}
 use Rattle.answers.specs.Looks.{firstRefusal, refuseIf, ruled}
 use Rattle.answers.specs.Refusals.{refusalTold}
@@ -40,8 +40,8 @@ use Rattle.collections.specs.Occurs.{occurring, occursUpTo}
 use Rattle.collections.specs.Reads.{countValues, countsOf, looksFrom, readLooks}
 use Rattle.listing.specs.Lists.{listOf}
 use Rattle.outside.specs.Reaches.{Enclosed}
-use Rattle.building.proofs.Numbered.{not-empty}
-use Rattle.building.specs.Builds.{buildAnswer, buildTold}
+use Rattle.growing.proofs.Numbered.{not-empty}
+use Rattle.building.specs.Builds.{answerTold, buildAnswer, buildTold}
 use Rattle.building.specs.declared.Answer as Building
 use Rattle.checking.specs.Checks.{checkAnswer, checkTold}
 use Rattle.checking.specs.declared.Answer as Checking
@@ -55,6 +55,7 @@ use Rattle.promises.specs.Forms.{CheckShown, Forms, ShowsForms, ShowsNob
 use Rattle.promises.specs.Together.{Taken}
 use Rattle.promises.proofs.Built.{good-built}
 use Rattle.promises.proofs.Checked.{good-checked}
+use Rattle.promises.proofs.Chosen.{last-same, refused-some, value-is}
 use Rattle.promises.proofs.Listed.{good-listed, listed-good, lists-is, occurring-has, occurs-some}
 use Rattle.promises.proofs.Occurring.{good-set, occurring-below, occurring-enclosed, occurring-taken}
 use Rattle.promises.proofs.Own.{built-checked}
@@ -126,9 +127,6 @@ module _ (b : List ℕ) where
 
 -- ---- the lines of the build and of the check, by what they tell
 
-some : (x : Refusal) → refusalTold x .number ≡ 0 → ⊥
-some x e = let w = number-zero (Refuse x) [] .0 e in let z : _≡_ {A = ℕ} 0 1 = cc in absurd (omega arith)
-
 -- 15 has no value
 fifteen : (x : Refusal) → refusalTold x .number ≡ 15 → refusalTold x ≡ told 15 []
 fifteen BadVersion e = absurd (omega (arith, e))
@@ -149,21 +147,24 @@ fifteen BadSet e = refl
 fifteen (Outside i) e = absurd (omega (arith, e))
 
 module _ (n : ℕ) (t o : List ℕ) where
-  told-tree : (a : Building.Answer) (k : ℕ) → buildTold a ≡ told 0 (value node-count k ∷ []) → builtText n t o a ≡ line build-word (0 ∷ k ∷ []) ++ bodyText n t (take (bodyLength k) o)
-  told-tree (Building.the-variants.Done w) k e = let v : value node-count (w .nodes) ∷ [] ≡ value node-count k ∷ [] = ap (λ (r : Told). r .values) e in let z : w .nodes ≡ k = cc in ap (λ (m : ℕ). line build-word (0 ∷ m ∷ []) ++ bodyText n t (take (bodyLength m) o)) z
-  told-tree (Building.the-variants.Refused x) k e = absurd (some x (ap (λ (r : Told). r .number) e))
+  told-tree : (a : Building.Answer) (k c d : ℕ) → buildTold (record { answer = a; looked = c }) ≡ told 0 (value node-count k ∷ value looked-count d ∷ [])
+      → builtText n t o a ≡ line build-word (0 ∷ k ∷ []) ++ bodyText n t (take (bodyLength k) o)
+  told-tree (Building.the-variants.Done w) k c d e = ap (λ (m : ℕ). line build-word (0 ∷ m ∷ []) ++ bodyText n t (take (bodyLength m) o)) (value-is (w .nodes) k e)
+  told-tree (Building.the-variants.Refused x) k c d e = absurd (refused-some x (ap (λ (r : Told). r .number) e))
 
-  told-stop : (a : Building.Answer) (u : ℕ) → buildTold a ≡ told 10 (value stopping-set u ∷ []) → builtText n t o a ≡ line build-word (10 ∷ u ∷ [])
-  told-stop (Building.the-variants.Done w) u e = absurd (omega (arith, ap (λ (r : Told). r .number) e))
-  told-stop (Building.the-variants.Refused x) u e = append-nil _ ∙ ap (λ (r : Told). line build-word (shownNumbers (plain r))) e
+  told-stop : (a : Building.Answer) (u c d : ℕ) → buildTold (record { answer = a; looked = c }) ≡ told 10 (value stopping-set u ∷ value looked-count d ∷ []) → builtText n t o a ≡ line build-word (10 ∷ u ∷ [])
+  told-stop (Building.the-variants.Done w) u c d e = absurd (omega (arith, ap (λ (r : Told). r .number) e))
+  told-stop (Building.the-variants.Refused x) u c d e =
+      let q = last-same (refusalTold x .values) (value stopping-set u ∷ []) _ _ (ap (λ (r : Told). r .values) e) .0 in
+      append-nil _ ∙ ap₂ (λ (k : ℕ) (vs : List Value). line build-word (shownNumbers (plain (told k vs)))) (ap (λ (r : Told). r .number) e) q
 
-  told-nobody : (a : Building.Answer) → buildTold a .number ≡ 15 → builtText n t o a ≡ line build-word (15 ∷ [])
+  told-nobody : (a : Building.Answer) → answerTold a .number ≡ 15 → builtText n t o a ≡ line build-word (15 ∷ [])
   told-nobody (Building.the-variants.Done w) e = absurd (omega (arith, e))
   told-nobody (Building.the-variants.Refused x) e = append-nil _ ∙ ap (λ (r : Told). line build-word (shownNumbers (plain r))) (fifteen x e)
 
 told-passed : (a : Checking.Answer) → checkTold a .number ≡ 0 → checkTold a ≡ told 0 []
 told-passed Checking.the-variants.Passes e = refl
-told-passed (Checking.the-variants.Refused x) e = absurd (some x e)
+told-passed (Checking.the-variants.Refused x) e = absurd (refused-some x e)
 
 -- ---- a collection
 
@@ -195,7 +196,7 @@ module _ (b : List ℕ) (w : Collection b) where
   taken : Taken koodhaxil n u t
   taken = occurring-taken .listed b zeros u (ap (λ (h : Given). h .told) listed)
 
-  text-is : shelfText b ≡ builtText n t (builds n u t o .after) (buildAnswer n u t (length o))
+  text-is : shelfText b ≡ builtText n t (builds n u t o .after) (buildAnswer n u t (length o) .answer)
   unfolding shelfText
   text-is = rw (read-pass b .1 w) refl
 
@@ -205,7 +206,7 @@ module _ (b : List ℕ) (w : Collection b) where
   nobody-shown e = record {
     collection = w;
     nobody = λ x k. false≢true (sym (has-empty x) ∙ ap (λ (s : ℕ). has s x) (sym e) ∙ ap (λ (S : Species). S x) (occurring-has b w) ∙ occurs-some b (trees b) x .1 k);
-    is = text-is ∙ told-nobody n t _ (buildAnswer n u t (length o)) (taken .empty o .1 e);
+    is = text-is ∙ told-nobody n t _ (buildAnswer n u t (length o) .answer) (taken .empty o .1 e);
   }
 
   -- ---- where something does
@@ -234,7 +235,7 @@ module _ (b : List ℕ) (w : Collection b) where
           (λ z.
           let f = good-checked n t body (record { count = count; table = table; body = k .wrote .body }) .unforced z in
           inr (record { index = f .0; told-is = f .1; shown = ap (λ (r : Told). shownNumbers (plain r)) (f .1) }))
-          (built-checked n u (k .count) t o (k .told-is))
+          (built-checked n u (k .count) (k .looked) t o (k .told-is))
 
       tree-shown : ShowsTree koodhaxil b (shelfText b)
       tree-shown = record {
@@ -242,13 +243,13 @@ module _ (b : List ℕ) (w : Collection b) where
         keeps = k;
         check = shownNumbers (plain (checks n t body));
         checked = check-shown;
-        is = text-is ∙ told-tree n t _ (buildAnswer n u t (length o)) (k .count) (k .told-is);
+        is = text-is ∙ told-tree n t _ (buildAnswer n u t (length o) .answer) (k .count) _ (k .looked) (k .told-is);
       }
 
     stop-shown : builds n u t o .told .number ≡ 10 → ShowsStop koodhaxil b (shelfText b)
     stop-shown z =
         let s = right .shows z in
-        record { collection = w; no-tree = right .refuses .0 z; stops = s; is = text-is ∙ told-stop n t _ (buildAnswer n u t (length o)) (s .set) (s .told-is) }
+        record { collection = w; no-tree = right .refuses .0 z; stops = s; is = text-is ∙ told-stop n t _ (buildAnswer n u t (length o) .answer) (s .set) _ (s .looked) (s .told-is) }
 
     some-shown : ShowsStop koodhaxil b (shelfText b) ⊎ ShowsTree koodhaxil b (shelfText b)
     some-shown = ⊎-elim (λ z. inr (tree-shown (right .keeps z))) (λ z. inl (stop-shown z)) (right .one-of)

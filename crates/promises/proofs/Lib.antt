@@ -19,6 +19,7 @@ pub mod Useless
 pub mod UselessTexts
 pub mod UselessVetoes
 pub mod Runs
+pub mod Counted
 pub mod Vetoed
 pub mod AsCheck
 pub mod Fewer
@@ -27,6 +28,7 @@ pub mod Loosened
 pub mod Finest
 pub mod Paper
 pub mod UselessLooseners
+pub mod UselessCounts
 pub mod Own
 pub mod Occurring
 pub mod Fans

@@ -21,7 +21,7 @@ use Rattle.tables.specs.Filled.{plain, tableFor}
 use Rattle.bodies.specs.Draws.{treeOf}
 use Rattle.bodies.specs.Nodes.{roomFor}
 use Rattle.outside.specs.Reaches.{Enclosed}
-use Rattle.answers.proofs.Answered.{first-on, told-first}
+use Rattle.answers.proofs.Answered.{first-on}
 use Rattle.answers.proofs.Good.{count-pass, table-pass}
 use Rattle.answers.specs.Answers.{Told, Value, node-count, value}
 use Rattle.answers.specs.Inputs.{Count, Table}
@@ -30,9 +30,8 @@ use Rattle.answers.specs.declared.Look.{Look}
 use Rattle.answers.specs.declared.Look.the-variants.{Pass}
 use Rattle.answers.specs.declared.Refusal.the-variants.{ShortRoom}
 use Rattle.building.proofs.Chosen.{outside-pass, set-pass}
-use Rattle.building.specs.Builds.{buildDone, buildLooks, buildTold, lookOutcome, nodesIn, outcome}
+use Rattle.building.specs.Builds.{buildDone, buildLooks, lookOutcome, lookedBy, nodesIn, outcome}
 use Rattle.building.specs.GoodSet.{GoodSet, lookOutside, lookSet}
-use Rattle.building.specs.declared.Answer.the-variants.{Done, Refused}
 use Rattle.collections.specs.Collection.{Collection}
 use Rattle.collections.specs.Layout.{bodyAt, species, trees}
 use Rattle.collections.specs.Occurs.{occurring}
@@ -41,6 +40,7 @@ use Rattle.listing.specs.Lists.{listOf, saidUpTo}
 use Rattle.promises.specs.Inputs.{Triplet}
 use Rattle.promises.specs.Operations.{Given, builds, enters, koodhaxil, lists}
 use Rattle.promises.specs.Together.{OccurringTaken, Taken}
+use Rattle.promises.proofs.Chosen.{told-looked}
 use Rattle.promises.proofs.Entered.{enters-is, occurring-in-has, occurs-in-below, said-occurs}
 use Rattle.promises.proofs.Listed.{fanned-some, held-some, lists-is, occurring-has, occurs-below, occurs-some}
 use Rattle.promises.proofs.Promises.{accepted}
@@ -70,19 +70,19 @@ module _ (n u : ℕ) (t : List ℕ) (c : Count n) (g : Table n t) where
     abbrev late : List Look
     late = lookSet n u ∷ lookOutside n u t ∷ lookRoom (roomFor (size u)) (length o) ∷ lookOutcome (outcome n u t) ∷ []
 
-    told-late : builds n u t o .told ≡ lookTold (firstRefusal late) counts
-    told-late = told-first buildTold Done Refused (buildDone (outcome n u t)) refl (λ x. refl) (firstRefusal (buildLooks n u t (length o)))
-        ∙ ap (λ (k : Look). lookTold k counts) (first-on front late front-pass)
+    told-late : builds n u t o .told .number ≡ lookTold (firstRefusal late) counts .number
+    told-late = ap (λ (r : Told). r .number) (told-looked (lookedBy false n u t) (buildDone (outcome n u t)) (firstRefusal (buildLooks n u t (length o))))
+        ∙ ap (λ (k : Look). lookTold k counts .number) (first-on front late front-pass)
 
     told-empty : u ≡ 0 → builds n u t o .told .number ≡ 15
-    told-empty e = ap (λ (r : Told). r .number) told-late ∙ rw e refl
+    told-empty e = told-late ∙ rw e refl
 
     told-taken : GoodSet n u → Enclosed n u t → (builds n u t o .told .number ≢ 15) × (builds n u t o .told .number ≢ 16)
     told-taken s e =
         let z : firstRefusal late ≡ firstRefusal (lookRoom (roomFor (size u)) (length o) ∷ lookOutcome (outcome n u t) ∷ []) = rw (set-pass n u .1 s, outside-pass n u t .1 e) refl in
-        let q = told-late ∙ ap (λ (k : Look). lookTold k counts) z in
+        let q = told-late ∙ ap (λ (k : Look). lookTold k counts .number) z in
         let k = last-number (ltb (length o) (roomFor (size u))) (outcome n u t) counts in
-        ((λ z. k .0 (sym (ap (λ (r : Told). r .number) q) ∙ z)), λ z. k .1 (sym (ap (λ (r : Told). r .number) q) ∙ z))
+        ((λ z. k .0 (sym q ∙ z)), λ z. k .1 (sym q ∙ z))
 
   -- a set below n, outside of which the table says nothing
   pub is-taken : Below n (has u) → Enclosed n u t → Taken koodhaxil n u t

@@ -10,7 +10,7 @@ use Rattle.promises.specs.Together.{BuiltChecked}
 use Rattle.promises.proofs.Vetoed.{veto-checked, vetoes-keep}
 
 pub built-checked : BuiltChecked koodhaxil
-built-checked n s m t o e =
+built-checked n s m l t o e =
     let q = vetoes-keep .but-10 n s t o (λ z. omega (arith, z, ap (λ (r : Told). r .number) e)) in
     subst (λ (h : Given). (checks n t (front m (h .after)) .number ≡ 0) ⊎ (checks n t (front m (h .after)) .number ≡ 12)) q
-    (veto-checked n s m t o (ap (λ (h : Given). h .told) q ∙ e))
+    (veto-checked n s m l t o (ap (λ (h : Given). h .told) q ∙ e))

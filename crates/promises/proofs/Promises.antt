@@ -1,4 +1,5 @@
 -- The three demands, each a theorem about the operations of this library, to be read with `specs/`. Assumes nothing.
+use mathlib.Core.Bool.{false}
 use mathlib.Core.Path.{refl}
 use lib.ListN.{length}
 use Rattle.bodies.specs.Nodes.{nodes}
@@ -9,7 +10,6 @@ use Rattle.entering.specs.declared.Answer as Entering
 use Rattle.ordering.specs.declared.Answer as Ordering
 use Rattle.parsing.specs.declared.Answer as Parsing
 use Rattle.rendering.specs.declared.Answer as Rendering
-use Rattle.building.specs.declared.Answer as Building
 use Rattle.loosening.specs.declared.Answer as Loosening
 use Rattle.collections.specs.Reads.{countsOf, readLooks, readTold}
 use Rattle.listing.specs.Lists.{listLooks}
@@ -17,8 +17,8 @@ use Rattle.entering.specs.Enters.{enterLooks, enterTold, entry}
 use Rattle.ordering.specs.Orders.{orderLooks, orderTold}
 use Rattle.parsing.specs.Parses.{parseDone, parseLooks, parseTold}
 use Rattle.rendering.specs.Renders.{renderDone, renderLooks, renderTold}
-use Rattle.building.specs.Builds.{buildDone, buildLooks, buildTold, inputLooks, outcome}
-use Rattle.building.specs.Vetoes.{vetoed}
+use Rattle.building.specs.Builds.{buildDone, buildLooks, inputLooks, lookedBy, outcome}
+use Rattle.building.specs.Vetoes.{vetoLooked, vetoed}
 use Rattle.checking.specs.Checks.{checkLooks}
 use Rattle.loosening.specs.Loosens.{eased, lent, loosenLooks, loosenTold, tally}
 use Rattle.promises.specs.Accepts.{Accepts}
@@ -31,7 +31,7 @@ use Rattle.promises.specs.Together.{AllDemands}
 use Rattle.promises.proofs.Accepted.{accepts}
 use Rattle.promises.proofs.Built.{good-built}
 use Rattle.promises.proofs.Checked.{check-told, good-checked}
-use Rattle.promises.proofs.Chosen.{chosen}
+use Rattle.promises.proofs.Chosen.{chosen, chosen-looked}
 use Rattle.promises.proofs.Entered.{good-entered}
 use Rattle.promises.proofs.Listed.{good-listed, good-read}
 use Rattle.promises.proofs.Ordered.{good-ordered}
@@ -46,8 +46,8 @@ demand1 = record {
   listing = λ b t. chosen readTold Reading.the-variants.Done Reading.the-variants.Refused (countsOf b) refl (λ x. refl) (listLooks b (length t)) _ t;
   entering = λ n rs t. chosen enterTold Entering.the-variants.Done Entering.the-variants.Refused (entry n rs) refl (λ x. refl) (enterLooks n rs (length t)) _ t;
   ordering = λ n b o. chosen orderTold Ordering.the-variants.Done Ordering.the-variants.Refused (record { nodes = nodes b .count }) refl (λ x. refl) (orderLooks n b (length o)) _ o;
-  building = λ n s t o. chosen buildTold Building.the-variants.Done Building.the-variants.Refused (buildDone (outcome n s t)) refl (λ x. refl) (buildLooks n s t (length o)) _ o;
-  vetoing = λ n s t o. chosen buildTold Building.the-variants.Done Building.the-variants.Refused (buildDone (vetoed n s t)) refl (λ x. refl) (inputLooks n s t (length o)) _ o;
+  building = λ n s t o. chosen-looked (lookedBy false n s t) (buildDone (outcome n s t)) (buildLooks n s t (length o)) _ o;
+  vetoing = λ n s t o. chosen-looked (vetoLooked n s t) (buildDone (vetoed n s t)) (inputLooks n s t (length o)) _ o;
   checking = λ n t b. check-told (firstRefusal (checkLooks n t b));
   loosening = λ n t b o d. chosen loosenTold Loosening.the-variants.Done Loosening.the-variants.Refused (tally (eased n t b)) refl (λ x. refl) (loosenLooks n t b (length o) (length d)) _ (lent o d);
   parsing = λ n w o. chosen parseTold Parsing.the-variants.Done Parsing.the-variants.Refused (parseDone w) refl (λ x. refl) (parseLooks n w (length o)) _ o;

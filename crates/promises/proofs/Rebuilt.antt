@@ -1,6 +1,6 @@
 -- Listing loses nothing: a good tree with exactly the species of a set is known by its table, and the builder, handed that set, gives it back in house order.
 -- Assumes nothing.
-use mathlib.Core.Bool.{So, false≢true}
+use mathlib.Core.Bool.{So, false, false≢true}
 use mathlib.Core.List.{List}
 use mathlib.Core.Logic.{_↔_, _≢_}
 use mathlib.Core.Path.{_∙_, _≡_, ap, refl, subst, sym}
@@ -30,7 +30,7 @@ use Rattle.bodies.proofs.Rules.{length-good}
 use Rattle.bodies.specs.Draws.{nodeCount, ordered, treeOf, written}
 use Rattle.bodies.specs.Nodes.{nodes, roomFor}
 use Rattle.outside.specs.Reaches.{Enclosed}
-use Rattle.building.specs.Builds.{outcome, outcomeBy}
+use Rattle.building.specs.Builds.{lookedBy, outcome, outcomeBy}
 use Rattle.building.specs.GoodSet.{GoodSet}
 use Rattle.promises.specs.Operations.{Given, builds, lists}
 use Rattle.answers.specs.Inputs.{Count, Table}
@@ -44,7 +44,7 @@ use Rattle.promises.proofs.Tabled.{Speaks, table-enclosed, table-exact,
 use Rattle.promises.proofs.Wrote.{tree-stands, tree-wrote}
 
 module _ (n s : ℕ) (b : List ℕ) (c : Count n) (f : Full n s b) where
-  formed : So (wellFormed (treeOf b))
+  pub formed : So (wellFormed (treeOf b))
   formed = good-formed n (c .most) b (f .body .good) (f .body .long)
 
   tree-in : Below n (under (treeOf b))
@@ -70,7 +70,7 @@ module _ (n s : ℕ) (b : List ℕ) (c : Count n) (f : Full n s b) where
   speaks : Speaks n (holds (treeOf b))
   speaks x y z h = let o = holds-e (treeOf b) x y z h in (tree-in x (o .in-a), tree-in y (o .in-b), tree-in z (o .in-c))
 
-  its-exact : (x y z : ℕ) → entered its x y z ≡ holds (treeOf b) x y z
+  pub its-exact : (x y z : ℕ) → entered its x y z ≡ holds (treeOf b) x y z
   its-exact = table-exact n (saidBy (treeOf b)) (holds-proper (treeOf b)) speaks
 
   -- it says nothing of other species
@@ -102,6 +102,7 @@ module _ (n s : ℕ) (b : List ℕ) (c : Count n) (f : Full n s b) where
     its-rebuilt : Returns n b o (builds n s its o)
     its-rebuilt = subst (λ (g : Given). Returns n b o g) (sym (builds-tree n s its o (its-buildable o room) (house (treeOf b)) its-outcome)) (record {
       count = count;
+      looked = lookedBy false n s its;
       told-is = refl;
       wrote = tree-wrote n s its o (its-buildable o room) (house (treeOf b)) formed-house species-house;
       body = stands;

@@ -12,6 +12,7 @@ use Rattle.sets.specs.Species.{Species, members}
 use Rattle.trees.specs.Build.{buildBy, buildIn, stop, tree}
 use Rattle.trees.specs.Links.{leads, part, parts}
 use Rattle.trees.specs.Trees.{Tree, cons, leaf, nil, node}
+use Rattle.trees.specs.Visits.{looked, visited, visitedIn}
 use Rattle.tables.proofs.Limits.{small-exactly}
 use Rattle.tables.specs.Bytes.{bitOf, entered, over, placeOf, wrongByte}
 use Rattle.tables.specs.Find.{at, firstTriple, firstFrom}
@@ -21,13 +22,13 @@ use Rattle.bodies.specs.Draws.{bodyOf, nodeCount, treeAt, treeOf, written}
 use Rattle.bodies.specs.Faults as Faults
 use Rattle.bodies.specs.Nodes.{badLength, children, nodes, roomFor}
 use Rattle.bodies.specs.declared.Verdict.the-variants.{Fine}
-use Rattle.answers.specs.Answers.{node-count, stopping-set, told, value}
+use Rattle.answers.specs.Answers.{looked-count, node-count, stopping-set, told, value}
 use Rattle.answers.specs.Looks as Looks
 use Rattle.answers.specs.Looks.{lookTold}
 use Rattle.answers.specs.declared.Look.{Look}
 use Rattle.answers.specs.declared.Look.the-variants.{Pass, Refuse}
 use Rattle.answers.specs.declared.Refusal.the-variants.{Contradicted, Unforced}
-use Rattle.building.specs.Builds.{outcome, outcomeBy}
+use Rattle.building.specs.Builds.{lookedBy, outcome, outcomeBy}
 use Rattle.checking.specs.Checks.{firstDiffers, firstUnsure, triplesLooks}
 use Rattle.promises.specs.Operations.{builds, checks, gives}
 use Rattle.answers.specs.Inputs.{Count, Table}
@@ -53,10 +54,10 @@ module _ (n : ℕ) (t : List ℕ) (some : 0 < n) (most : n ≤ 64) (long : lengt
     room = omega (arith, length-replicate {A = ℕ} (roomFor n) 0, size-upto n);
   }
 
-  by-tree : (T : Tree) → outcome n (upto n) t ≡ tree T → builds n (upto n) t (room n) ≡ gives (told 0 (value node-count (nodeCount T) ∷ [])) (written (room n) (bodyOf T))
+  by-tree : (T : Tree) → outcome n (upto n) t ≡ tree T → builds n (upto n) t (room n) ≡ gives (told 0 (value node-count (nodeCount T) ∷ value looked-count (lookedBy false n (upto n) t) ∷ [])) (written (room n) (bodyOf T))
   by-tree T e = builds-tree n (upto n) t (room n) all-good T e
 
-  by-stop : (U : Species) → outcome n (upto n) t ≡ stop U → builds n (upto n) t (room n) ≡ gives (told 10 (value stopping-set (number 64 U) ∷ [])) (room n)
+  by-stop : (U : Species) → outcome n (upto n) t ≡ stop U → builds n (upto n) t (room n) ≡ gives (told 10 (value stopping-set (number 64 U) ∷ value looked-count (lookedBy false n (upto n) t) ∷ [])) (room n)
   by-stop U e = builds-stop n (upto n) t (room n) all-good U e
 
   by-check : (b : List ℕ) → badLength (length b) ≡ false → Faults.fault 0 (nodes b) n ≡ Fine → (T : Tree) → treeOf b ≡ T → (k : Look) → Looks.firstRefusal (triplesLooks n t T) ≡ k → checks n t b ≡ lookTold k []
@@ -75,7 +76,7 @@ abbrev Fan : Tree
 Fan = node (cons (leaf 0) (cons (leaf 1) (cons (leaf 2) nil)))
 
 pub starred-given : CallsHold starred
-unfolding digit number members buildBy buildIn leads part parts bitOf entered over placeOf firstDiffers firstUnsure at firstTriple firstFrom C highAt index largest lowAt midAt treeAt Faults.fault Faults.firstBreak Faults.seen children outcomeBy
+unfolding digit number members buildBy buildIn leads part parts bitOf entered over placeOf firstDiffers firstUnsure at firstTriple firstFrom C highAt index largest lowAt midAt treeAt Faults.fault Faults.firstBreak Faults.seen children outcomeBy lookedBy looked visited visitedIn
 starred-given = (
   by-tree 1 [] (omega arith) (omega arith) refl refl (leaf 0) refl,
   (

@@ -11,7 +11,8 @@ use Rattle.rendering.specs.Renders.{renderTold}
 use Rattle.building.specs.Builds.{buildTold}
 use Rattle.checking.specs.Checks.{checkTold}
 use Rattle.loosening.specs.Loosens.{loosenTold}
-use Rattle.lines.specs.Lines.{buildLine, checkLine, enterLine, listLine, loosenLine, orderLine, parseLine, readLine, renderLine, vetoLine}
+use Rattle.table_lines.specs.Lines.{buildLine, enterLine, listLine, readLine, vetoLine}
+use Rattle.tree_lines.specs.Lines.{checkLine, loosenLine, orderLine, parseLine, renderLine}
 use Rattle.promises.specs.Operations.{koodhaxil}
 use Rattle.promises.specs.Linked.{Linked, Printed}
 use Rattle.promises.specs.Tied.{Tied}

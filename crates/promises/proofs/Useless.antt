@@ -31,15 +31,15 @@ use Rattle.bodies.proofs.Rules.{no-fault}
 use Rattle.bodies.specs.Draws.{bodyOf, nodeCount, treeAt, treeOf, written}
 use Rattle.bodies.specs.Faults.{fault, firstBreak, seen}
 use Rattle.bodies.specs.Nodes.{bodyLength, children, nodes, roomFor}
-use Rattle.answers.specs.Answers.{Told, node-count, table-byte, told, triple-index, value}
+use Rattle.answers.specs.Answers.{Told, looked-count, node-count, table-byte, told, triple-index, value}
 use Rattle.answers.specs.Inputs.{Body, Count}
 use Rattle.collections.proofs.Whole.{read-pass}
 use Rattle.collections.specs.Collection.{Collection}
 use Rattle.collections.specs.Layout.{start}
 use Rattle.collections.specs.Reads.{looksFrom, readLooks}
 use Rattle.listing.specs.Lists.{saidUpTo}
-use Rattle.building.proofs.Numbered.{not-empty}
-use Rattle.building.specs.Builds.{outcome, outcomeBy}
+use Rattle.growing.proofs.Numbered.{not-empty}
+use Rattle.building.specs.Builds.{lookedBy, outcome, outcomeBy}
 use Rattle.promises.specs.Operations.{Builder, Given, GivenOf, builds, checks, gives, lists}
 use Rattle.promises.specs.Inputs.{Buildable, Listable}
 use Rattle.promises.specs.Demand2.{ChecksRight, FirstTriple, Keeps, front}
@@ -107,11 +107,12 @@ keeps-count t n S o {g} {g′} k k′ =
 pub inventing-breaks : InventingBreaks
 inventing-breaks f i d =
     let r = d (i .n) (i .s) (i .t) (i .o) (i .good) in
-    let ours = good-built (i .n) (i .s) (i .t) (i .o) (i .good) .keeps (i .built) in
+    let ours = good-built (i .n) (i .s) (i .t) (i .o) (i .good) .keeps (ap (λ (x : Told). x .number) (i .built)) in
     ⊎-elim
     (λ z.
     let k = r .keeps z in
-    i .other (k .told-is ∙ ap (λ (m : ℕ). told 0 (value node-count m ∷ [])) (keeps-count (i .t) (i .n) (has (i .s)) (i .o) k ours) ∙ sym (ours .told-is)))
+    let c = keeps-count (i .t) (i .n) (has (i .s)) (i .o) k ours ∙ value-is (ours .count) (i .count) (sym (ours .told-is) ∙ i .built) in
+    i .other (k .looked) (k .told-is ∙ ap (λ (m : ℕ). told 0 (value node-count m ∷ value looked-count (k .looked) ∷ [])) c))
     (λ z. r .refuses .0 z (_, ours .held))
     (r .one-of)
 
@@ -133,7 +134,7 @@ lone-built = refl
 pub tells99-invents : Invents tells99
 tells99-invents =
     let ours = builds-tree 1 1 [] two-bytes one-good (leaf 0) lone-built in
-    let built = ap (λ (g : Given). g .told .number) ours in
+    let built = ap (λ (g : Given). g .told) ours in
     record {
       writes = λ n s t o g z. ap (λ (h : Given). h .after) (on-zero (builds n s t o) _ z);
       n = 1;
@@ -141,8 +142,10 @@ tells99-invents =
       t = [];
       o = two-bytes;
       good = one-good;
+      count = 1;
+      looked = lookedBy false 1 1 [];
       built = built;
-      other = λ e. let m = value-is 99 1 (sym (ap (λ (g : Given). g .told) (on-zero (builds 1 1 [] two-bytes) _ built)) ∙ e ∙ ap (λ (g : Given). g .told) ours) in omega arith;
+      other = λ c e. let m = value-is 99 1 (sym (ap (λ (g : Given). g .told) (on-zero (builds 1 1 [] two-bytes) _ (ap (λ (x : Told). x .number) built))) ∙ e) in omega arith;
     }
 
 pub tells99-breaks : Tells99Breaks
@@ -196,8 +199,8 @@ unfolding children treeAt C
 fixed-breaks f T same d =
     let r = d .rebuilt 3 7 fanBody unsaid ten-bytes three fan-full refl (three-room ten-bytes (omega arith)) in
     let r′ = d .rebuilt 3 7 cherryBody unsaid ten-bytes three cherry-full refl (three-room ten-bytes (omega arith)) in
-    let s : SameGroups (T 7) (treeOf fanBody) = subst (λ (u : Tree). SameGroups u (treeOf fanBody)) (same 3 7 _ _ (three-good fanBody fan-full) (r .count) (r .told-is)) (r .groups) in
-    let s′ : SameGroups (T 7) (treeOf cherryBody) = subst (λ (u : Tree). SameGroups u (treeOf cherryBody)) (same 3 7 _ _ (three-good cherryBody cherry-full) (r′ .count) (r′ .told-is)) (r′ .groups) in
+    let s : SameGroups (T 7) (treeOf fanBody) = subst (λ (u : Tree). SameGroups u (treeOf fanBody)) (same 3 7 _ _ (three-good fanBody fan-full) (r .count) (r .looked) (r .told-is)) (r .groups) in
+    let s′ : SameGroups (T 7) (treeOf cherryBody) = subst (λ (u : Tree). SameGroups u (treeOf cherryBody)) (same 3 7 _ _ (three-good cherryBody cherry-full) (r′ .count) (r′ .looked) (r′ .told-is)) (r′ .groups) in
     false≢true (sym (same-holds (T 7) (treeOf fanBody) s 0 1 2) ∙ same-holds (T 7) (treeOf cherryBody) s′ 0 1 2)
 
 -- the one that refuses always breaks this demand too
@@ -209,15 +212,15 @@ refusing-breaks-rebuilding f never d =
 
 -- whatever builds where it does not
 pub starry-gives : (f : Builder) → Gives star (starry f)
-starry-gives f n s t o g k e =
+starry-gives f n s t o g k c e =
     let T = star s in
     let small : s < 2 ^ 64 = lt-of-has 64 s (λ x h. omega (arith, g .set .below x h, g .count .most)) in
     let m = some-member s (not-empty s (g .set .some)) in
     let formed = star-sound 64 (has s) in
     let species = star-species 64 (has s) (has-below 64 s small) (m .0) (true-has s (m .0) (m .1)) in
-    let q = zero-on (f n s t o) (gives (told 0 (value node-count (nodeCount T) ∷ [])) (written o (bodyOf T))) (ap (λ (x : Told). x .number) e) in
-    let c = value-is k (nodeCount T) (sym e ∙ ap (λ (h : Given). h .told) q) in
-    ap₂ (λ (j : ℕ) (u : List ℕ). treeOf (front j u)) c (ap (λ (h : Given). h .after) q)
+    let q = zero-on (f n s t o) (gives (told 0 (value node-count (nodeCount T) ∷ value looked-count (C (size s) 3) ∷ [])) (written o (bodyOf T))) (ap (λ (x : Told). x .number) e) in
+    let j = value-is k (nodeCount T) (sym e ∙ ap (λ (h : Given). h .told) q) in
+    ap₂ (λ (j : ℕ) (u : List ℕ). treeOf (front j u)) j (ap (λ (h : Given). h .after) q)
     ∙ tree-back n s t o g T formed species
 
 pub starry-breaks : StarryBreaks

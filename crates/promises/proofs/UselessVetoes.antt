@@ -20,7 +20,7 @@ use Rattle.bodies.proofs.Houses.{good-formed}
 use Rattle.bodies.specs.Draws.{nodeCount, treeAt, treeOf}
 use Rattle.bodies.specs.Nodes.{children}
 use Rattle.building.specs.Builds.{outcomeBy}
-use Rattle.promises.specs.Demand2.{Contradicts, front}
+use Rattle.promises.specs.Demand2.{BuildsAll, Contradicts, front}
 use Rattle.promises.specs.Inputs.{Buildable}
 use Rattle.promises.specs.Operations.{Builder, Given, builds, vetoes}
 use Rattle.promises.specs.Runs.{cherryBody, fanBody}
@@ -35,10 +35,10 @@ use Rattle.promises.proofs.Wrote.{tree-back}
 
 -- ---- 01|2 and 02|1
 
-abbrev quarrel : List ℕ
+abbrev pub quarrel : List ℕ
 quarrel = 3 ∷ []
 
-quarrel-good : Buildable 3 7 quarrel ten-bytes
+pub quarrel-good : Buildable 3 7 quarrel ten-bytes
 unfolding C over
 quarrel-good = all-good 3 quarrel (omega arith) (omega arith) refl refl
 
@@ -50,18 +50,21 @@ quarrel-other : So (entered quarrel 0 2 1)
 unfolding entered placeOf bitOf index C digit
 quarrel-other = refl
 
--- no tree holds both
-pub plain-breaks : PlainBreaks
+-- no tree holds both, so a plain build answers 10
+pub quarrel-ten : (f : Builder) → BuildsAll f → f 3 7 quarrel ten-bytes .told .number ≡ 10
 unfolding digit
-plain-breaks f d never =
+quarrel-ten f d =
     let r = d 3 7 quarrel ten-bytes quarrel-good in
     ⊎-elim
     (λ z.
     let T = treeOf (front (r .keeps z .count) (f 3 7 quarrel ten-bytes .after)) in
     let h = r .keeps z .held in
-    exclusive T (formed-e T (h .formed)) 0 1 2 (h .keeps 0 1 2 refl refl refl quarrel-one) (h .keeps 0 2 1 refl refl refl quarrel-other))
-    (never 3 7 quarrel ten-bytes)
+    absurd (exclusive T (formed-e T (h .formed)) 0 1 2 (h .keeps 0 1 2 refl refl refl quarrel-one) (h .keeps 0 2 1 refl refl refl quarrel-other)))
+    (λ z. z)
     (r .one-of)
+
+pub plain-breaks : PlainBreaks
+plain-breaks f d never = never 3 7 quarrel ten-bytes (quarrel-ten f d)
 
 -- ---- a fixed tree: of nothing said, and of 01|2
 
@@ -71,7 +74,7 @@ module _ (f : Builder) (T : ℕ → Tree) (same : Gives T f) (d : AsBuilt f buil
   fixed-is t g U e =
       let h = three-built t U e .0 in
       let q = d 3 7 t ten-bytes g (U, h) ∙ builds-tree 3 7 t ten-bytes g U e in
-      sym (same 3 7 t ten-bytes g (nodeCount U) (ap (λ (x : Given). x .told) q))
+      sym (same 3 7 t ten-bytes g (nodeCount U) _ (ap (λ (x : Given). x .told) q))
       ∙ ap (λ (x : Given). treeOf (front (nodeCount U) (x .after))) q
       ∙ tree-back 3 7 t ten-bytes g U (h .formed) (h .species)
 
@@ -105,7 +108,7 @@ taking-side-breaks f k u =
     let r = good-checked (k .n) (k .t) b (record { count = g .count; table = g .table; body = k .body }) in
     let d = two-contradict (entered (k .t)) (treeOf b) (formed-e (treeOf b) (good-formed (k .n) (g .count .most) b (k .body .good) (k .body .long))) (k .a) (k .b) (k .c) (k .one) (k .other) (k .resolved) in
     ⊎-elim (λ z. r .passes .0 z .0 (k .a) (k .b) (k .c) d) (⊎-elim
-    (u (k .n) (k .s) (k .count) (k .t) (k .o) (k .told-is))
+    (u (k .n) (k .s) (k .count) (k .looked) (k .t) (k .o) (k .told-is))
     (λ z. r .unforced z .2 (k .a) (k .b) (k .c) d)) (r .one-of)
 
 pub siding-sides : TakesSide siding
@@ -117,6 +120,7 @@ siding-sides = record {
   o = ten-bytes;
   good = quarrel-good;
   count = 5;
+  looked = 1;
   told-is = refl;
   body = cherry-full .body;
   a = 0;

@@ -21,7 +21,7 @@ use Rattle.tables.specs.Tells.{TableTells}
 use Rattle.bodies.specs.Draws.{bodyOf, treeOf}
 use Rattle.bodies.specs.Nodes.{bodyLength, nodes}
 use Rattle.answers.specs.Inputs.{Body}
-use Rattle.answers.specs.Answers.{Told, node-count, occurring-set, species-count, stopping-set, table-byte, told, tree-count, triple-index, value}
+use Rattle.answers.specs.Answers.{Told, looked-count, node-count, occurring-set, species-count, stopping-set, table-byte, told, tree-count, triple-index, value}
 use Rattle.collections.specs.Collection.{Collection}
 use Rattle.collections.specs.Layout.{bodyAt, species, trees}
 use Rattle.entering.specs.Enters.{left, outer, right}
@@ -120,12 +120,13 @@ pub record OrdersRight (n : ℕ) (b o : List ℕ) (g : Given) : Type 0 where
 abbrev pub OrdersAll : Orderer → Type 0
 OrdersAll f = (n : ℕ) (b o : List ℕ) → Orderable n b o → OrdersRight n b o (f n b o)
 
--- ---- the builder, for the entered triplets E and the species S
+-- ---- the builder, for the entered triplets E and the species S; how many triples it looks at, `Counting` says
 
 -- Aho's tree, with exactly the species, which holds every entered triplet, in house order
 pub record Keeps (E : Triplets) (n : ℕ) (S : Species) (o : List ℕ) (g : Given) : Type 0 where
   pub count : ℕ
-  pub told-is : g .told ≡ told 0 (value node-count count ∷ [])
+  pub looked : ℕ
+  pub told-is : g .told ≡ told 0 (value node-count count ∷ value looked-count looked ∷ [])
   pub wrote : Wrote n count o (g .after)
   pub held : HeldBy E S (treeOf (front count (g .after)))
   pub aho : AhoTree E (treeOf (front count (g .after)))
@@ -134,7 +135,8 @@ pub record Keeps (E : Triplets) (n : ℕ) (S : Species) (o : List ℕ) (g : Give
 -- a set of three or more species, which links inside it join
 pub record Shows (E : Triplets) (S : Species) (g : Given) : Type 0 where
   pub set : ℕ
-  pub told-is : g .told ≡ told 10 (value stopping-set set ∷ [])
+  pub looked : ℕ
+  pub told-is : g .told ≡ told 10 (value stopping-set set ∷ value looked-count looked ∷ [])
   pub inside : Inside (has set) S
   pub three : 3 ≤ size set
   pub joined : JoinedByWalks E (has set)

@@ -11,7 +11,7 @@ use Rattle.trees.specs.Trees.{SameGroups, under}
 use Rattle.tables.specs.Index.{C}
 use Rattle.bodies.specs.Draws.{ordered, treeOf}
 use Rattle.bodies.specs.Nodes.{roomFor}
-use Rattle.answers.specs.Answers.{node-count, told, value}
+use Rattle.answers.specs.Answers.{looked-count, node-count, told, value}
 use Rattle.promises.specs.Operations.{Given, Lister, Operations}
 use Rattle.answers.specs.Inputs.{Body, Count}
 use Rattle.promises.specs.Demand2.{Wrote, front}
@@ -32,7 +32,8 @@ tableOf f n b t = f (alone n b) t .after
 -- that tree's house-order body, with its groups and no others, was written
 pub record Returns (n : ℕ) (b o : List ℕ) (g : Given) : Type 0 where
   pub count : ℕ
-  pub told-is : g .told ≡ told 0 (value node-count count ∷ [])
+  pub looked : ℕ
+  pub told-is : g .told ≡ told 0 (value node-count count ∷ value looked-count looked ∷ [])
   pub wrote : Wrote n count o (g .after)
   pub body : front count (g .after) ≡ ordered b
   pub groups : SameGroups (treeOf (front count (g .after))) (treeOf b)

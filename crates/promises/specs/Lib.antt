@@ -7,6 +7,7 @@ pub mod Accepts
 pub mod Demand3
 pub mod Newick
 pub mod Together
+pub mod Counting
 pub mod Veto
 pub mod Loosening
 pub mod Finest
@@ -15,6 +16,7 @@ pub mod Fans
 pub mod Useless
 pub mod UselessVetoes
 pub mod UselessLooseners
+pub mod UselessCounts
 pub mod Tied
 pub mod Linked
 pub mod Forms

@@ -4,17 +4,17 @@ use mathlib.Core.List.{List, _++_, map}
 use mathlib.Core.Path.{_≡_}
 use Rattle.writing.specs.Texts.{ended}
 use Rattle.writing.specs.Writes.{Writes}
-use Rattle.lines.proofs.build_line as build-line
-use Rattle.lines.proofs.check_line as check-line
-use Rattle.lines.proofs.enter_line as enter-line
-use Rattle.lines.proofs.list_line as list-line
-use Rattle.lines.proofs.loosen_line as loosen-line
-use Rattle.lines.proofs.order_line as order-line
-use Rattle.lines.proofs.parse_line as parse-line
-use Rattle.lines.proofs.read_line as read-line
-use Rattle.lines.proofs.render_line as render-line
-use Rattle.lines.proofs.veto_line as veto-line
-use Rattle.lines.specs.Lines.{barred, lentText, toldText}
+use Rattle.table_lines.proofs.build_line as build-line
+use Rattle.tree_lines.proofs.check_line as check-line
+use Rattle.table_lines.proofs.enter_line as enter-line
+use Rattle.table_lines.proofs.list_line as list-line
+use Rattle.tree_lines.proofs.loosen_line as loosen-line
+use Rattle.tree_lines.proofs.order_line as order-line
+use Rattle.tree_lines.proofs.parse_line as parse-line
+use Rattle.table_lines.proofs.read_line as read-line
+use Rattle.tree_lines.proofs.render_line as render-line
+use Rattle.table_lines.proofs.veto_line as veto-line
+use Rattle.reply_text.specs.Text.{barred, lentText, toldText}
 use Rattle.exports.proofs.koodhaxil_build as c-build
 use Rattle.exports.proofs.koodhaxil_check as c-check
 use Rattle.exports.proofs.koodhaxil_enter as c-enter
@@ -26,7 +26,7 @@ use Rattle.exports.proofs.koodhaxil_read as c-read
 use Rattle.exports.proofs.koodhaxil_render as c-render
 use Rattle.exports.proofs.koodhaxil_veto as c-veto
 use Rattle.triplets.specs.Spelled.{spelled}
-use Rattle.exports.specs.Codes.{Handed}
+use Rattle.laying.specs.Codes.{Handed}
 use Rattle.loosening.specs.Loosens.{lent}
 use Rattle.promises.specs.Operations.{Given, GivenOf, Operations}
 use Rattle.promises.specs.Tied.{After}

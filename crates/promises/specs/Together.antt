@@ -3,7 +3,7 @@ use mathlib.Core.List.{List, [], _∷_}
 use mathlib.Core.Logic.{_↔_, _≢_, _⊎_}
 use mathlib.Core.Path.{_≡_}
 use Prim.Native.Nat.{ℕ}
-use Rattle.answers.specs.Answers.{node-count, occurring-set, species-count, told, tree-count, value}
+use Rattle.answers.specs.Answers.{looked-count, node-count, occurring-set, species-count, told, tree-count, value}
 use Rattle.collections.specs.Layout.{species, trees}
 use Rattle.promises.specs.Operations.{Builder, Checker, Operations}
 use Rattle.promises.specs.Accepts.{Accepts}
@@ -21,7 +21,7 @@ RefusesBadAlone = (L : Operations) → Demand1 L → Accepts L
 
 -- where a build f answers 0 with m nodes, the check c of their bytes against the same table answers 0 or 12
 abbrev pub OwnChecked : Builder → Checker → Type 0
-OwnChecked f c = (n s m : ℕ) (t o : List ℕ) → f n s t o .told ≡ told 0 (value node-count m ∷ [])
+OwnChecked f c = (n s m l : ℕ) (t o : List ℕ) → f n s t o .told ≡ told 0 (value node-count m ∷ value looked-count l ∷ [])
     → (c n t (front m (f n s t o .after)) .number ≡ 0) ⊎ (c n t (front m (f n s t o .after)) .number ≡ 12)
 
 -- of the plain build

@@ -8,7 +8,7 @@ use Rattle.trees.specs.Trees.{Tree}
 use Rattle.trees.specs.Triplets.{resolves}
 use Rattle.tables.specs.Bytes.{entered}
 use Rattle.bodies.specs.Draws.{treeOf}
-use Rattle.answers.specs.Answers.{node-count, told, value}
+use Rattle.answers.specs.Answers.{looked-count, node-count, told, value}
 use Rattle.answers.specs.Inputs.{Body}
 use Rattle.promises.specs.Operations.{Builder, builds, checks, vetoes}
 use Rattle.promises.specs.Inputs.{Buildable}
@@ -24,7 +24,8 @@ pub record TakesSide (f : Builder) : Type 0 where
   pub o : List ℕ
   pub good : Buildable n s t o
   pub count : ℕ
-  pub told-is : f n s t o .told ≡ told 0 (value node-count count ∷ [])
+  pub looked : ℕ
+  pub told-is : f n s t o .told ≡ told 0 (value node-count count ∷ value looked-count looked ∷ [])
   pub body : Body n (front count (f n s t o .after))
   pub a : ℕ
   pub b : ℕ

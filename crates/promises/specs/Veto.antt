@@ -1,6 +1,6 @@
 -- What is promised of the veto build. Request T-06: "as ours, but where a set's links join it all, every species of that set becomes a leaf under it. It never
 -- gives 10. Its tree always passes the PC part of the check. Where a tree holding everything exists, it equals the plain build."
-use mathlib.Core.Bool.{So}
+use mathlib.Core.Bool.{So, true}
 use mathlib.Core.List.{List, [], _∷_}
 use mathlib.Core.Logic.{_≢_}
 use mathlib.Core.Path.{_≡_}
@@ -14,17 +14,19 @@ use Rattle.trees.specs.Triplets.{Triplets}
 use Rattle.trees.specs.Veto.{VetoTree}
 use Rattle.tables.specs.Bytes.{entered}
 use Rattle.bodies.specs.Draws.{treeOf}
-use Rattle.answers.specs.Answers.{node-count, told, value}
+use Rattle.answers.specs.Answers.{looked-count, node-count, told, value}
 use Rattle.promises.specs.Operations.{Builder, Checker, Given, Operations}
 use Rattle.promises.specs.Inputs.{Buildable}
 use Rattle.promises.specs.Demand2.{HouseBody, Wrote, front}
 use Rattle.promises.specs.Together.{OwnChecked}
+use Rattle.promises.specs.Counting.{CountsAll}
 
 -- a good tree with exactly the species S, in house order: at each node whose group the links join all children are leaves, at every other they are the parts
 -- (`VetoTree`); and it passes PC against the entered triplets E, over all n species as in the check
 pub record VetoesRight (E : Triplets) (n : ℕ) (S : Species) (o : List ℕ) (g : Given) : Type 0 where
   pub count : ℕ
-  pub told-is : g .told ≡ told 0 (value node-count count ∷ [])
+  pub looked : ℕ
+  pub told-is : g .told ≡ told 0 (value node-count count ∷ value looked-count looked ∷ [])
   pub wrote : Wrote n count o (g .after)
   pub species : (x : ℕ) → under (treeOf (front count (g .after))) x ≡ S x
   pub formed : So (wellFormed (treeOf (front count (g .after))))
@@ -36,9 +38,9 @@ pub record VetoesRight (E : Triplets) (n : ℕ) (S : Species) (o : List ℕ) (g 
 abbrev pub VetoesAll : Builder → Type 0
 VetoesAll f = (n s : ℕ) (t o : List ℕ) → Buildable n s t o → VetoesRight (entered t) n (has s) o (f n s t o)
 
--- that leaves nothing open: any two that keep it give the same to good input
+-- with the number of triples looked at that leaves nothing open: any two that keep both give the same to good input
 abbrev pub OneVeto : Type 0
-OneVeto = (f h : Builder) → VetoesAll f → VetoesAll h → (n s : ℕ) (t o : List ℕ) → Buildable n s t o → f n s t o ≡ h n s t o
+OneVeto = (f h : Builder) → VetoesAll f → VetoesAll h → CountsAll true f → CountsAll true h → (n s : ℕ) (t o : List ℕ) → Buildable n s t o → f n s t o ≡ h n s t o
 
 -- "It never gives 10": to no input whatever
 abbrev pub NeverTen : Builder → Type 0
@@ -47,7 +49,7 @@ NeverTen f = (n s : ℕ) (t o : List ℕ) → f n s t o .told .number ≢ 10
 -- "Its tree always passes the PC part of the check": where f answers 0 with m nodes, the check of their bytes against the same table, where papers quarrel
 -- too, does not answer 11
 abbrev pub Uncontradicted : Builder → Checker → Type 0
-Uncontradicted f c = (n s m : ℕ) (t o : List ℕ) → f n s t o .told ≡ told 0 (value node-count m ∷ []) → c n t (front m (f n s t o .after)) .number ≢ 11
+Uncontradicted f c = (n s m l : ℕ) (t o : List ℕ) → f n s t o .told ≡ told 0 (value node-count m ∷ value looked-count l ∷ []) → c n t (front m (f n s t o .after)) .number ≢ 11
 
 -- "Where a tree holding everything exists, it equals the plain build" b: the answer, and the room
 abbrev pub AsBuilt : Builder → Builder → Type 0

@@ -1,8 +1,8 @@
 -- Different refusals, answers and replies have different numbers or items: each is found again from them. Assumes nothing.
 use mathlib.Core.Bool.{cond}
-use mathlib.Core.List.{[]}
+use mathlib.Core.List.{List, []}
 use mathlib.Core.Logic.{_≢_}
-use mathlib.Core.Path.{_∙_, _≡_, ap, refl, sym}
+use mathlib.Core.Path.{_∙_, _≡_, ap, ap₂, refl, sym}
 use Prim.Native.Nat.{ℕ}
 use native.Mathlib.Omega.{arith}
 use borrow.Author.Tests.{ne-eqb}
@@ -26,13 +26,14 @@ use Rattle.parsing.specs.Parses.{parseTold}
 use Rattle.parsing.specs.declared.Answer as Parsing
 use Rattle.rendering.specs.Renders.{renderTold}
 use Rattle.rendering.specs.declared.Answer as Rendering
-use Rattle.building.specs.Builds.{buildTold}
+use Rattle.building.specs.Builds.{answerTold, buildTold}
 use Rattle.building.specs.declared.Answer as Building
 use Rattle.checking.specs.Checks.{checkTold}
 use Rattle.checking.specs.declared.Answer as Checking
 use Rattle.loosening.specs.Loosens.{loosenTold}
 use Rattle.loosening.specs.declared.Answer as Loosening
-use Rattle.replies.specs.Plain.{Apart, Item, Plain, ToldApart, broken-rule, plain, plain-number}
+use Rattle.replies.proofs.Behind.{behind-same, counted-behind}
+use Rattle.replies.specs.Plain.{Apart, Item, Plain, ToldApart, behind, broken-rule, plain, plain-number}
 use Rattle.replies.specs.Replied.{replied}
 use Rattle.replies.specs.declared.Reply.{Reply}
 use Rattle.replies.specs.declared.Reply.the-variants as Replies
@@ -168,12 +169,20 @@ render-apart = found-apart (λ (a : Rendering.Answer). plain (renderTold a)) (an
 abbrev buildBack : Plain → Building.Answer
 buildBack p = Building.the-variants.Done (record { nodes = numberAt 0 p })
 
-build-found : (a : Building.Answer) → answerIn buildBack Building.the-variants.Refused (plain (buildTold a)) ≡ a
+build-found : (a : Building.Answer) → answerIn buildBack Building.the-variants.Refused (plain (answerTold a)) ≡ a
 build-found (Building.the-variants.Done w) = refl
 build-found (Building.the-variants.Refused x) = refused-found buildBack Building.the-variants.Refused x
 
+-- the answer of a build, and the number behind it
 pub build-apart : ToldApart buildTold
-build-apart = found-apart (λ (a : Building.Answer). plain (buildTold a)) (answerIn buildBack Building.the-variants.Refused) build-found
+build-apart r q e =
+    let p : Plain = plain (answerTold (r .answer)) in
+    let p′ : Plain = plain (answerTold (q .answer)) in
+    let z : behind p (r .looked) ≡ behind p′ (q .looked) = sym (counted-behind r) ∙ e ∙ counted-behind q in
+    let i = behind-same (p .items) (p′ .items) (plain-number (r .looked)) (plain-number (q .looked)) (ap (λ (k : Plain). k .items) z) in
+    let a = found-apart (λ (a : Building.Answer). plain (answerTold a)) (answerIn buildBack Building.the-variants.Refused) build-found (r .answer) (q .answer)
+    (ap₂ (λ (n : ℕ) (l : List Item). record { number = n; items = l }) (ap (λ (k : Plain). k .number) z) (i .0)) in
+    ap₂ (λ (x : Building.Answer) (c : ℕ). record { answer = x; looked = c }) a (ap numberIn (i .1))
 
 abbrev checkBack : Plain → Checking.Answer
 checkBack p = Checking.the-variants.Passes

@@ -1,3 +1,4 @@
 -- The laws of replies.
 pub mod Replying
+pub mod Behind
 pub mod Apart

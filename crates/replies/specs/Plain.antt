@@ -1,5 +1,5 @@
 -- What is returned with a number, without its name. Document 01, "Numbers handed back".
-use mathlib.Core.List.{List, [], _∷_}
+use mathlib.Core.List.{List, [], _++_, _∷_}
 use mathlib.Core.Path.{_≡_}
 use Prim.Native.Nat.{ℕ}
 use Rattle.bodies.specs.declared.Fault.{Fault}
@@ -25,6 +25,10 @@ pub record Plain : Type 0 where
 
 abbrev pub plain : Told → Plain
 plain t = record { number = t .number; items = items (t .values) }
+
+-- one number more, behind the items
+abbrev pub behind : Plain → ℕ → Plain
+behind p c = record { number = p .number; items = p .items ++ (plain-number c ∷ []) }
 
 -- different ones give different results
 abbrev pub Apart : {A B : Type 0} → (A → B) → Type 0

@@ -1,15 +1,18 @@
 // An answer as plain numbers: document 01's number, and what is returned with it.
+ghost use mathlib.Core.Logic.{_≢_};
 ghost use mathlib.Core.Path.{_≡_};
+ghost use Prim.Native.Nat.{_≤_};
+ghost use lib.ListN.{length};
 ghost use Rattle.answers.specs.Refusals.{refusalTold};
 ghost use Rattle.collections.specs.Reads.{readTold};
 ghost use Rattle.entering.specs.Enters.{enterTold};
 ghost use Rattle.ordering.specs.Orders.{orderTold};
 ghost use Rattle.parsing.specs.Parses.{parseTold};
 ghost use Rattle.rendering.specs.Renders.{renderTold};
-ghost use Rattle.building.specs.Builds.{buildTold};
+ghost use Rattle.building.specs.Builds.{answerTold, buildTold};
 ghost use Rattle.checking.specs.Checks.{checkTold};
 ghost use Rattle.loosening.specs.Loosens.{loosenTold};
-ghost use Rattle.replies.specs.Plain.{plain};
+ghost use Rattle.replies.specs.Plain.{behind, plain};
 ghost use Rattle.replies.specs.Replied.{replied};
 
 // A number alone, with one value, with two, with three, and refusal 6.
@@ -95,14 +98,37 @@ pub fn render(a: rendering::Answer) -> Reply
     }
 }
 
-// The reply to an answer of building.
-pub fn build(a: building::Answer) -> Reply
-    ensures { λ r. ⌜ replied r ≡ plain (buildTold a) ⌝ }
+// A reply of two values at most, and behind them c.
+fn further(r: Reply, c: usize) -> Reply
+    requires { ⌜ length (replied r .items) ≤ 2 ⌝ }
+    ensures { λ q. ⌜ replied q ≡ behind (replied r) c ⌝ }
+{
+    match r {
+        Reply::Bare(k) => Reply::One(k, c),
+        Reply::One(k, x) => Reply::Two(k, x, c),
+        Reply::Two(k, x, y) => Reply::Three(k, x, y, c),
+        Reply::Three(k, x, y, z) => Reply::Three(k, x, y, z),
+        Reply::Broken(x) => Reply::Broken(x),
+    }
+}
+
+// The reply to an answer of building, without the triples looked at.
+pub fn built(a: building::Answer) -> Reply
+    ensures { λ r. ⌜ replied r ≡ plain (answerTold a) ⌝ }
 {
     match a {
         building::Answer::Done(w) => Reply::One(0, w.nodes),
         building::Answer::Refused(x) => refusal(x),
     }
+}
+
+// The reply to an answer of building, which is never 6, with the triples looked at.
+pub fn build(a: building::Counted) -> Reply
+    requires { ⌜ answerTold (a .answer) .number ≢ 6 ⌝ }
+    ensures { λ r. ⌜ replied r ≡ plain (buildTold a) ⌝ }
+{
+    let b = a.answer;
+    further(built(b), a.looked)
 }
 
 // The reply to an answer of the check.

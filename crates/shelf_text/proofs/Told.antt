@@ -65,7 +65,7 @@ refused-build : (n : ℕ) (t o : List ℕ) (a : Building.Answer) → OneOf (1 �
 refused-build n t o (Building.the-variants.Done w) h = absurd (miss (1 ∷ []) 0 tt h)
 refused-build n t o (Building.the-variants.Refused x) h = refl
 
-module _ (n s : ℕ) (t o x : List ℕ) (a : Building.Answer) (p : x ≡ buildNumbers a) (q : a ≡ buildAnswer n s t longest) (h : o ≡ buildAfter n s t (replicate longest 0)) where
+module _ (n s : ℕ) (t o x : List ℕ) (a : Building.Answer) (p : x ≡ buildNumbers a) (q : a ≡ buildAnswer n s t longest .answer) (h : o ≡ buildAfter n s t (replicate longest 0)) where
   built-told : line build-word x ++ behindText n t o a ≡ tableText n s t
   built-told = rw (p, h, q) refl
 

@@ -11,7 +11,7 @@ use Rattle.bodies.specs.Nodes.{bodyLength, longest}
 use Rattle.collections.specs.declared.Answer as Reading
 use Rattle.collections.specs.Reads.{readAnswer, readTold}
 use Rattle.listing.specs.Lists.{listAfter}
-use Rattle.building.specs.Builds.{buildAfter, buildAnswer, buildTold}
+use Rattle.building.specs.Builds.{answerTold, buildAfter, buildAnswer}
 use Rattle.building.specs.declared.Answer as Building
 use Rattle.checking.specs.Checks.{checkAnswer, checkTold}
 use Rattle.checking.specs.declared.Answer as Checking
@@ -60,7 +60,7 @@ abbrev pub readNumbers : Reading.Answer → List ℕ
 readNumbers a = unreadNumbers (plain (readTold a))
 
 abbrev pub buildNumbers : Building.Answer → List ℕ
-buildNumbers a = shownNumbers (plain (buildTold a))
+buildNumbers a = shownNumbers (plain (answerTold a))
 
 abbrev pub checkNumbers : Checking.Answer → List ℕ
 checkNumbers a = shownNumbers (plain (checkTold a))
@@ -79,7 +79,7 @@ builtText n t o a = line build-word (buildNumbers a) ++ behindText n t o a
 
 -- from a table of n species, over the set s: a room of zeros that holds the longest body
 abbrev pub tableText : ℕ → ℕ → List ℕ → List ℕ
-tableText n s t = builtText n t (buildAfter n s t (replicate longest 0)) (buildAnswer n s t longest)
+tableText n s t = builtText n t (buildAfter n s t (replicate longest 0)) (buildAnswer n s t longest .answer)
 
 -- once the collection b was read; its table was zeros before. Request T-03: the build is over the set that occurs, "where no species occurs it prints only `build 15`"
 abbrev pub readText : List ℕ → Reading.Answer → List ℕ

@@ -111,7 +111,7 @@ fn read_numbers(a: collections::Answer) -> LineNumbers
 fn build_numbers(a: building::Answer) -> LineNumbers
     ensures { λ r. ⌜ listed r ≡ buildNumbers a ⌝ }
 {
-    shown(replies::build(a))
+    shown(replies::built(a))
 }
 
 fn check_numbers(a: checking::Answer) -> LineNumbers
@@ -140,7 +140,8 @@ fn build_lines(out: &mut [u8], n: usize, set: u64, t: &[u8]) -> usize
     ensures { λ r. ⌜ Writes (now (out .entry)) 0 (tableText n set (now (t .entry))) (now (out .exit)) r ⌝ }
 {
     let mut room = [0; bodies::LONGEST];
-    let a = building::build(n, set, t, &mut room);
+    let counted = building::build(n, set, t, &mut room);
+    let a = counted.answer;
     let next = put_line(out, 0, b"build", build_numbers(a));
     match a {
         building::Answer::Done(w) => {

@@ -3,12 +3,26 @@ ghost use mathlib.Core.Path.{_≡_};
 ghost use Prim.Native.Nat.{_<_};
 ghost use lib.ListN.{length};
 ghost use lib.Seq.{sets};
-ghost use Rattle.sets.specs.Sets.{has};
+ghost use Rattle.sets.specs.Sets.{has, size};
 ghost use Rattle.sets.specs.Floods.{Flooded};
 ghost use Rattle.sets.specs.Species.{Below};
+ghost use Rattle.trees.specs.Combinations.{C};
 ghost use Rattle.tables.specs.Bytes.{entered};
 ghost use Rattle.splitting.specs.Rows.{flag, RowsShow, Pair, Ties, InRow, InLevel, Laid, Mirrored, Flagged};
 ghost use Rattle.splitting.specs.Split.{partsOf};
+
+// How many parts a set has, and how many triples were looked at to find them.
+pub struct Parted {
+    pub count: usize,
+    pub looked: usize,
+}
+
+// The rows of links, and how many triples were looked at. The rows are handed back by value: where they were lent, one split had so little data that the
+// compiler put it into each level of the build, some 500 bytes a level more.
+struct Filled {
+    rows: [u64; 64],
+    looked: usize,
+}
 
 // Puts b into the row of a where it is on.
 fn join(on: bool, a: usize, b: usize, g: &mut [u64; 64])
@@ -35,29 +49,36 @@ fn note(t: &[u8], a: usize, b: usize, c: usize, g: &mut [u64; 64])
     }
 }
 
-// The triples with b and c, and the lowest from `low`.
-fn row(t: &[u8], low: u64, b: usize, c: usize, g: &mut [u64; 64])
+// The triples with b and c, and the lowest from `low`. Returns how many were looked at, by one each: one for each species of `low`.
+fn row(t: &[u8], low: u64, b: usize, c: usize, g: &mut [u64; 64]) -> usize
     requires { ⌜ Below b (has low) × (b < c) × (c < 64) × (length (now g) ≡ 64) ⌝ }
     ensures { λ _. ⌜ Flagged (InRow (entered (now (t .entry))) low b c) (now (g .entry)) (now (g .exit)) ⌝ }
+    ensures { λ r. ⌜ r ≡ C (size low) 1 ⌝ }
 {
     let mut left = low;
+    let mut looked = 0;
     while left != 0 {
         note(t, sets::lowest(left), b, c, g);
+        looked += 1;
         left = sets::rest(left);
     }
+    looked
 }
 
-// The triples whose highest species is c, and the two others from `low`.
-fn level(t: &[u8], low: u64, c: usize, g: &mut [u64; 64])
+// The triples whose highest species is c, and the two others from `low`. Returns how many were looked at: one for each two species of `low`.
+fn level(t: &[u8], low: u64, c: usize, g: &mut [u64; 64]) -> usize
     requires { ⌜ Below c (has low) × (c < 64) × (length (now g) ≡ 64) ⌝ }
     ensures { λ _. ⌜ Flagged (InLevel (entered (now (t .entry))) low c) (now (g .entry)) (now (g .exit)) ⌝ }
+    ensures { λ r. ⌜ r ≡ C (size low) 2 ⌝ }
 {
     let mut left = low;
+    let mut looked = 0;
     while left != 0 {
         let b = sets::lowest(left);
-        row(t, sets::meet(low, sets::all(b)), b, c, g);
+        looked += row(t, sets::meet(low, sets::all(b)), b, c, g);
         left = sets::rest(left);
     }
+    looked
 }
 
 // Puts a into the rows of all species of `row`.
@@ -88,19 +109,21 @@ fn mirror(s: u64, g: &mut [u64; 64])
     }
 }
 
-// The links on s: all triples with their three species in s, and then the other direction of each link.
-fn links(t: &[u8], s: u64) -> [u64; 64]
-    ensures { λ r. ⌜ RowsShow r (entered (now (t .entry))) s ⌝ }
+// The links on s: all triples with their three species in s, and then the other direction of each link. Each three species of s are looked at once.
+fn links(t: &[u8], s: u64) -> Filled
+    ensures { λ r. ⌜ RowsShow (r .rows) (entered (now (t .entry))) s ⌝ }
+    ensures { λ r. ⌜ r .looked ≡ C (size s) 3 ⌝ }
 {
     let mut g = [0; 64];
     let mut left = s;
+    let mut looked = 0;
     while left != 0 {
         let c = sets::lowest(left);
-        level(t, sets::meet(s, sets::all(c)), c, &mut g);
+        looked += level(t, sets::meet(s, sets::all(c)), c, &mut g);
         left = sets::rest(left);
     }
     mirror(s, &mut g);
-    g
+    Filled { rows: g, looked }
 }
 
 // What is reached from a over the links.
@@ -120,13 +143,16 @@ fn part(g: &[u64; 64], a: usize) -> u64
     reached
 }
 
-// The connected parts of s, by lowest species, to the front of `parts`. Returns how many there are.
-pub fn split(t: &[u8], s: u64, parts: &mut [u64; 64]) -> usize
+// The connected parts of s, by lowest species, to the front of `parts`. Returns how many there are, and how many triples were looked at: each three species
+// of s are looked at once.
+pub fn split(t: &[u8], s: u64, parts: &mut [u64; 64]) -> Parted
     requires { ⌜ length (now parts) ≡ 64 ⌝ }
-    ensures { λ r. ⌜ r ≡ length (partsOf (entered (now (t .entry))) s) ⌝ }
+    ensures { λ r. ⌜ r .count ≡ length (partsOf (entered (now (t .entry))) s) ⌝ }
     ensures { λ _. ⌜ now (parts .exit) ≡ sets (now (parts .entry)) 0 (partsOf (entered (now (t .entry))) s) ⌝ }
+    ensures { λ r. ⌜ r .looked ≡ C (size s) 3 ⌝ }
 {
-    let g = links(t, s);
+    let filled = links(t, s);
+    let g = filled.rows;
     let mut rest = s;
     let mut k = 0;
     while rest != 0 {
@@ -135,5 +161,8 @@ pub fn split(t: &[u8], s: u64, parts: &mut [u64; 64]) -> usize
         k += 1;
         rest = sets::minus(rest, p);
     }
-    k
+    Parted {
+        count: k,
+        looked: filled.looked,
+    }
 }

@@ -4,19 +4,14 @@ use mathlib.Core.Bool.{Bool, So, _&&_, cond, true}
 use mathlib.Core.Logic.{_↔_, _⊎_, inl, inr, ⊎-elim}
 use mathlib.Core.Path.{_∙_, _≡_, ap, ap₂, refl, subst, sym}
 use Prim.Native.Nat.{_*_, _+_, _-_, _/_, _<_, _≤_, suc, zero, ℕ}
-use native.Mathlib.Decide.{le-ind}
 use native.Mathlib.Omega.{arith}
 use borrow.Author.Tests.{eqb-true, le-leb, leb-false, leb-true, ltb-true, not-true}
 use lib.Dec.{eqb, leb, ltb}
 use Rattle.sets.proofs.Bools.{and-l, and-r, by-order, lt-of-ne, test}
+use Rattle.trees.proofs.Combinations.{C-more, C-none, C-one}
 use Rattle.tables.specs.Index.{C, highAt, index, largest, lowAt, midAt}
 
--- ---- combinations
-
-pub C-one : (n : ℕ) → C n 1 ≡ n
-unfolding C
-C-one zero = refl
-C-one (suc n) = omega (arith, C-one n)
+-- ---- combinations of two and of three
 
 pub C-two : (n : ℕ) → C (suc n) 2 ≡ C n 2 + n
 unfolding C
@@ -25,19 +20,6 @@ C-two n = omega (arith, C-one n)
 pub C-three : (n : ℕ) → C (suc n) 3 ≡ C n 3 + C n 2
 unfolding C
 C-three n = omega arith
-
-pub C-none : (k : ℕ) → C 0 (suc k) ≡ 0
-unfolding C
-C-none k = refl
-
-C-step : (k n : ℕ) → C n k ≤ C (suc n) k
-unfolding C
-C-step zero n = omega arith
-C-step (suc k) n = omega arith
-
--- more species, more sets
-pub C-more : (k m n : ℕ) → m ≤ n → C m k ≤ C n k
-C-more k m n h = le-ind (λ (j : ℕ). C m k ≤ C j k) (omega arith) (λ j l e. omega (arith, C-step k j)) n h
 
 -- fewer than three species have no triple
 pub C-few : (n : ℕ) → n < 3 → C n 3 ≡ 0

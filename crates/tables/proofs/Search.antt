@@ -10,7 +10,8 @@ use lib.Dec.{eqb}
 use Rattle.sets.proofs.Bools.{by-order, lt-of-ne, not-e, test}
 use Rattle.trees.specs.Triplets.{Triplets, onTriple}
 use Rattle.tables.proofs.Find.{at-index, first-at, first-is, first-le}
-use Rattle.tables.proofs.Indices.{C-none, C-three, C-two, index-lt}
+use Rattle.trees.proofs.Combinations.{C-none}
+use Rattle.tables.proofs.Indices.{C-three, C-two, index-lt}
 use Rattle.tables.specs.Find.{at, firstTriple}
 use Rattle.tables.specs.Index.{C, index}
 use Rattle.tables.specs.Finds.{Finds}

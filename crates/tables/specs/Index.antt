@@ -3,12 +3,7 @@
 use mathlib.Core.Bool.{cond}
 use Prim.Native.Nat.{ℕ, zero, suc, _+_, _-_, min, max}
 use lib.Dec.{leb}
-
--- C(n,k): how many sets of k there are among n
-unfoldable pub C : ℕ → ℕ → ℕ
-C n zero = 1
-C zero (suc k) = 0
-C (suc n) (suc k) = C n k + C n (suc k)
+unfoldable pub use Rattle.trees.specs.Combinations.{C}
 
 unfoldable pub index : ℕ → ℕ → ℕ → ℕ
 index a b c = C c 3 + C b 2 + a

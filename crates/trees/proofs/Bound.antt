@@ -43,7 +43,7 @@ module _ (E : Triplets) (pr : Proper E) (N M : ℕ) (le : N ≤ M) where
   ending-bound true S bd = ap (λ (l : List ℕ). tree (node (leafEach l))) (members-more N M S le bd)
 
   module _ (v : Bool) where
-    levels-bound : (k : ℕ) (S : Species) → Below N S → buildIn v E M k S ≡ buildIn v E N k S
+    pub levels-bound : (k : ℕ) (S : Species) → Below N S → buildIn v E M k S ≡ buildIn v E N k S
     unfolding buildIn
     levels-bound zero S bd = ending-bound v S bd
     levels-bound (suc k) S bd =

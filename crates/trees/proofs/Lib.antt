@@ -42,3 +42,11 @@ pub mod LooseRuns
 pub mod Finest
 pub mod Induced
 pub mod Words
+pub mod Combinations
+pub mod Visits
+pub mod VisitRule
+pub mod VisitBound
+pub mod Weights
+pub mod Nested
+pub mod CountTheorems
+pub mod CountRuns

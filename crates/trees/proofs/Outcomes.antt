@@ -23,7 +23,7 @@ next-tree (stop U) q f e = let z : _≡_ {A = ℕ} 0 1 = cc in absurd (omega ari
 next-tree (tree t) (stops U) f e = let z : _≡_ {A = ℕ} 0 1 = cc in absurd (omega arith)
 next-tree (tree t) (trees f′) f e = (t, f′, refl, refl, cc)
 
-next-stop : (r : Outcome) (q : Outcomes) (U : Species) → next r q ≡ stops U → (r ≡ stop U) ⊎ (q ≡ stops U)
+pub next-stop : (r : Outcome) (q : Outcomes) (U : Species) → next r q ≡ stops U → (r ≡ stop U) ⊎ (q ≡ stops U)
 next-stop (stop W) q U e = inl (cc)
 next-stop (tree t) (stops W) U e = inr (cc)
 next-stop (tree t) (trees f) U e = let z : _≡_ {A = ℕ} 0 1 = cc in absurd (omega arith)

@@ -28,7 +28,7 @@ use Rattle.trees.specs.Triplets.{Proper, Triplets, holds}
 use Rattle.trees.specs.Veto.{VetoTree}
 
 module _ (E : Triplets) (N : ℕ) where
-  no-stop-in : (k : ℕ) (S U : Species) → buildIn true E N k S ≡ stop U → ⊥
+  pub no-stop-in : (k : ℕ) (S U : Species) → buildIn true E N k S ≡ stop U → ⊥
   unfolding buildIn
   no-stop-in zero S U e = let z : _≡_ {A = ℕ} 0 1 = cc in absurd (omega arith)
   no-stop-in (suc k) S U e = ⊎-elim

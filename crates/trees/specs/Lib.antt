@@ -9,3 +9,5 @@ pub mod Held
 pub mod Check
 pub mod Induced
 pub mod Loosen
+pub mod Combinations
+pub mod Visits

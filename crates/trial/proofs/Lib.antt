@@ -1,3 +1,2 @@
--- Laws of the items and of the lines.
-mod Items
-mod Made
+-- The law of one step.
+mod OneCall

@@ -1,3 +1,2 @@
--- Which line a call gets: definitions only.
-pub mod Records
-pub mod Made
+-- One step of `trial`: definitions only.
+pub mod OneCall

@@ -4,10 +4,8 @@ ghost use mathlib.Core.Path.{_≡_};
 ghost use Prim.Native.Nat.{_<_, _≤_};
 ghost use lib.ListN.{length};
 ghost use Rattle.calls.specs.Inputs.{InBuffer};
-ghost use Rattle.trial.specs.Records.{Room};
-ghost use Rattle.trial.specs.Made.{OneCall};
-
-mod making;
+ghost use Rattle.choosing.specs.Room.{Room};
+ghost use Rattle.trial.specs.OneCall.{OneCall};
 
 // How many calls are made at most: the program ends.
 const MOST_CALLS: u64 = 9223372036854775808;

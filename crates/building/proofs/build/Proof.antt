@@ -1,52 +1,11 @@
 -- What the looks refuse, and what is built where they refuse nothing. Assumes nothing.
-use mathlib.Core.List.{List, [], _∷_}
-use mathlib.Core.Path.{_∙_, _≡_, sym}
-use Prim.Native.Nat.{ℕ, _≤_}
+use mathlib.Core.Path.{_∙_, sym}
 use borrow.Author.Needs.{needs}
 use lib.ListN.{length}
-use Rattle.sets.specs.Sets.{size}
-use Rattle.bodies.specs.Nodes.{roomFor}
-use Rattle.answers.proofs.Answered.{first-stop, is-refused}
-use Rattle.answers.specs.Inputs.{Count}
-use Rattle.answers.specs.Looks.{firstRefusal}
-use Rattle.answers.specs.declared.Look.{Look}
-use Rattle.answers.specs.declared.Look.the-variants.{Pass}
-use Rattle.building.specs.Builds.{inputLooks, lookOutcome, outcome}
-use Rattle.building.specs.GoodSet.{GoodSet}
-use Rattle.building.proofs.Chosen.{input-good}
-use Rattle.building.proofs.Whole.{builds}
+use Rattle.building.proofs.Chosen.{input-asks}
+use Rattle.building.proofs.Whole.{builds, builds-not}
 use Rattle.building.proofs.build.Statement.{statement}
 use Rattle.building.proofs.build.Tie as tie
-
-module _ (c : tie.After-look-input) where
-  abbrev st : tie.Start
-  st = c .before .before .before
-
-  abbrev n : ℕ
-  n = st .args .n
-
-  abbrev s : ℕ
-  s = st .args .set
-
-  abbrev t : List ℕ
-  t = st .args .t .now
-
-  abbrev room : List ℕ
-  room = st .args .room .now
-
-  abbrev looks : List Look
-  looks = inputLooks n s t (length room)
-
--- nothing of it was refused
-module _ (c : tie.After-enum-told) where
-  abbrev p : tie.After-look-input
-  p = c .before .before
-
-  passed : firstRefusal (looks p) ≡ Pass
-  passed = sym (p .look-input .ensures) ∙ c .enum-told .given .1
-
-  good : Count (n p) × GoodSet (n p) (s p) × (roomFor (size (s p)) ≤ length (room p))
-  good = input-good (n p) (s p) (t p) (length (room p)) passed
 
 look-input-requires : tie.Need-look-input-requires
 look-input-requires c κs = search needs
@@ -55,7 +14,11 @@ enum-told : tie.Need-enum-told
 enum-told c = search needs
 
 raise-requires : tie.Need-raise-requires
-raise-requires c κs = let g = good (c .before) in (g .1 .some, g .2)
+raise-requires c κs =
+    let e = c .before in
+    let x = e .before .before in
+    let a = x .before .before .before .args in
+    input-asks (a .n) (a .set) (a .t .now) (length (a .room .now)) (x .look-input .ensures) (e .enum-told .given .1)
 
 enum-known-look : tie.Need-enum-known-look
 enum-known-look c = search needs
@@ -67,14 +30,16 @@ returns : tie.Need-returns
 returns c =
     let r = c .before .before in
     let e = r .before .before in
-    let x = p e in
-    builds (n x) (s x) (t x) (room x) (r .raise .result) (r .raise .last .1 .1 .1 .0) (passed e) (r .raise .ensures)
+    let x = e .before .before in
+    let a = x .before .before .before .args in
+    builds (a .n) (a .set) (a .t .now) (a .room .now) (r .raise .result) (r .raise .last .1 .1 .1 .0) (sym (x .look-input .ensures) ∙ e .enum-told .given .1) (r .raise .ensures)
 
 returns-2 : tie.Need-returns-2
 returns-2 c =
     let k = c .before in
     let x = k .before .before in
-    is-refused _ (first-stop (looks x) (lookOutcome (outcome (n x) (s x) (t x)) ∷ []) _ (sym (x .look-input .ensures) ∙ k .look .given .1))
+    let a = x .before .before .before .args in
+    builds-not (a .n) (a .set) (a .t .now) (a .room .now) _ (sym (x .look-input .ensures) ∙ k .look .given .1)
 
 pub build-spec : {M : Type 1} → statement M
 build-spec =

@@ -49,8 +49,8 @@ use Rattle.entering.specs.Enters.{Enters, enterAfter, enterAnswer, enterTold}
 use Rattle.replies.specs.Plain.{plain as plainly}
 use Rattle.replies.specs.Replied.{replied}
 use Rattle.triplets.specs.Spelled.{spelled}
-use Rattle.exports.specs.Codes.{Handed, Lays}
-use Rattle.exports.proofs.Laying.{handed}
+use Rattle.laying.specs.Codes.{Handed, Lays}
+use Rattle.laying.proofs.Laying.{handed}
 use Rattle.triplets.proofs.Triplet as T
 use Rattle.entering.proofs.Answer as S
 use Rattle.entering.proofs.Answer.Laws as S′
@@ -64,10 +64,10 @@ use Rattle.replies.proofs.enter as reply
 use Rattle.replies.proofs.enter.Symbol as reply-def
 use Rattle.replies.proofs.enter.Symbol.{name as #replies·enter}
 use Rattle.replies.proofs.enter.Met as reply-thm
-use Rattle.exports.proofs.lay as lay
-use Rattle.exports.proofs.lay.Symbol as lay-def
-use Rattle.exports.proofs.lay.Symbol.{name as #exports·lay}
-use Rattle.exports.proofs.lay.Met as lay-thm
+use Rattle.laying.proofs.lay as lay
+use Rattle.laying.proofs.lay.Symbol as lay-def
+use Rattle.laying.proofs.lay.Symbol.{name as #laying·lay}
+use Rattle.laying.proofs.lay.Met as lay-thm
 use Rattle.exports.proofs.koodhaxil_enter.Key.{name as #exports·koodhaxil-enter}
 use Rattle.exports.proofs.koodhaxil_enter as self
 use Rattle.exports.proofs.koodhaxil_enter.Statement as stated
@@ -182,7 +182,7 @@ module _ {M : Type 1} (𝓤 : URA M) (H : Heap 𝓤) (A : Atoms 𝓤) (W : Given
   typed-reply : (s : Reply) (w : Val) → Is P.the-row s (w ∷ []) → T (hasTy rep w) × WT w
   typed-reply s w is = EL.lawful P.the-type P′.the-laws 𝓤 H A W tt .typed s _ is .0
 
-  walk : (𝓣 : Tables 𝓤 H) → Triple 𝓤 (𝓣 .C #triplets·enter) (Into 𝓤 H A at-mem run) → Triple 𝓤 (𝓣 .C #replies·enter) (Answers 𝓤 H A at-mem run) → Triple 𝓤 (𝓣 .C #exports·lay) (Lay 𝓤 H A at-mem run)
+  walk : (𝓣 : Tables 𝓤 H) → Triple 𝓤 (𝓣 .C #triplets·enter) (Into 𝓤 H A at-mem run) → Triple 𝓤 (𝓣 .C #replies·enter) (Answers 𝓤 H A at-mem run) → Triple 𝓤 (𝓣 .C #laying·lay) (Lay 𝓤 H A at-mem run)
       → Room T.the-row (length rs) → Room u8 (length ts) → Room usize (length vs)
       → ent 𝓤 (onEntry 𝓤 H A self.signature (κ, (κ′, (κ″, tt))) (q, (q′, (q″, tt))) x vals) (WpFn 𝓤 H (𝓣 .C) (𝓣 .Λ) code.function (vint w64 m ∷ rv ∷ tv ∷ vv ∷ []) Post)
   walk 𝓣 enters answers lays gr gt gv =
@@ -226,7 +226,7 @@ module _ {M : Type 1} (𝓤 : URA M) (H : Heap 𝓤) (A : Atoms 𝓤) (W : Given
       by ! (exits r w (zs .1 .1 .0) (us .1 .0) (handed enterTold vs e₂ (e₁ .is) e₃) (e₁ .holds) k₁ k₂)))))))))))))))))))))))))))))
 
 module _ {M : Type 1} (𝓤 : URA M) (H : Heap 𝓤) (A : Atoms 𝓤) (W : Given 𝓤 H A) (mem : Memory → SProp 𝓤) (run : Routine → Fun 𝓤) (𝓣 : Tables 𝓤 H)
-    (enters : Triple 𝓤 (𝓣 .C #triplets·enter) (Into 𝓤 H A mem run)) (answers : Triple 𝓤 (𝓣 .C #replies·enter) (Answers 𝓤 H A mem run)) (lays : Triple 𝓤 (𝓣 .C #exports·lay) (Lay 𝓤 H A mem run)) where
+    (enters : Triple 𝓤 (𝓣 .C #triplets·enter) (Into 𝓤 H A mem run)) (answers : Triple 𝓤 (𝓣 .C #replies·enter) (Answers 𝓤 H A mem run)) (lays : Triple 𝓤 (𝓣 .C #laying·lay) (Lay 𝓤 H A mem run)) where
   self-walks : Walks 𝓤 H A self.ended stayed (WpFn 𝓤 H (𝓣 .C) (𝓣 .Λ) code.function) (self.clauses 𝓤 H A mem run)
   self-walks = walked 𝓤 H A self.ended stayed (self.clauses 𝓤 H A mem run) (WpFn 𝓤 H (𝓣 .C) (𝓣 .Λ) code.function)
       (λ κs. (uint-vals w64, (slice-vals, (slice-vals, (slice-vals, tt))))) (λ κs. (uint-tells w64, (shr-slice-tells (named 0) (κs .0) T.the-row, (mut-slice-tells (named 1) (κs .1 .0) u8, (mut-slice-tells (named 2) (κs .1 .1 .0) usize, tt)))))
@@ -247,4 +247,4 @@ koodhaxil-enter-spec 𝓤 H 𝓜 𝓖 𝓡 =
     (self-meets 𝓤 H (𝓖 .A) (givenOf 𝓤 H 𝓜 𝓖) (𝓜 .mem) (𝓡 .run) (tablesOf 𝓤 H 𝓜 (tables 𝓤 H 𝓜 𝓡 code.env))
     (cited 𝓤 H (Into 𝓤 H (𝓖 .A) (𝓜 .mem) (𝓡 .run)) 𝓜 𝓡 code.env #triplets·enter into-def.routine code.calls-triplets·enter (into-thm.met 𝓤 H 𝓜 𝓖 𝓡))
     (cited 𝓤 H (Answers 𝓤 H (𝓖 .A) (𝓜 .mem) (𝓡 .run)) 𝓜 𝓡 code.env #replies·enter reply-def.routine code.calls-replies·enter (reply-thm.met 𝓤 H 𝓜 𝓖 𝓡))
-    (cited 𝓤 H (Lay 𝓤 H (𝓖 .A) (𝓜 .mem) (𝓡 .run)) 𝓜 𝓡 code.env #exports·lay lay-def.routine code.calls-exports·lay (lay-thm.met 𝓤 H 𝓜 𝓖 𝓡)))
+    (cited 𝓤 H (Lay 𝓤 H (𝓖 .A) (𝓜 .mem) (𝓡 .run)) 𝓜 𝓡 code.env #laying·lay lay-def.routine code.calls-laying·lay (lay-thm.met 𝓤 H 𝓜 𝓖 𝓡)))

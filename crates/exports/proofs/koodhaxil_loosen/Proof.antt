@@ -1,7 +1,7 @@
 -- The reply to an answer of loosening is handed back. Assumes nothing.
 use borrow.Author.Needs.{needs}
 use Rattle.loosening.specs.Loosens.{loosenTold}
-use Rattle.exports.proofs.Laying.{handed}
+use Rattle.laying.proofs.Laying.{handed}
 use Rattle.exports.proofs.koodhaxil_loosen.Statement.{statement}
 use Rattle.exports.proofs.koodhaxil_loosen.Tie as tie
 

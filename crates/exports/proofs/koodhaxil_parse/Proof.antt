@@ -1,6 +1,6 @@
 -- The reply to an answer of reading a Newick text is handed back. Assumes nothing.
 use borrow.Author.Needs.{needs}
-use Rattle.exports.proofs.Laying.{handed}
+use Rattle.laying.proofs.Laying.{handed}
 use Rattle.parsing.specs.Parses.{parseTold}
 use Rattle.exports.proofs.koodhaxil_parse.Statement.{statement}
 use Rattle.exports.proofs.koodhaxil_parse.Tie as tie

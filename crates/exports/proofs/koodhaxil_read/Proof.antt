@@ -1,7 +1,7 @@
 -- The reply to an answer of reading is handed back. Assumes nothing.
 use borrow.Author.Needs.{needs}
 use Rattle.collections.specs.Reads.{readTold}
-use Rattle.exports.proofs.Laying.{handed}
+use Rattle.laying.proofs.Laying.{handed}
 use Rattle.exports.proofs.koodhaxil_read.Statement.{statement}
 use Rattle.exports.proofs.koodhaxil_read.Tie as tie
 

@@ -1,6 +1,6 @@
 -- The reply to an answer of writing a Newick text is handed back. Assumes nothing.
 use borrow.Author.Needs.{needs}
-use Rattle.exports.proofs.Laying.{handed}
+use Rattle.laying.proofs.Laying.{handed}
 use Rattle.rendering.specs.Renders.{renderTold}
 use Rattle.exports.proofs.koodhaxil_render.Statement.{statement}
 use Rattle.exports.proofs.koodhaxil_render.Tie as tie

@@ -3,7 +3,8 @@ use mathlib.Core.List.{[], _∷_}
 use mathlib.Core.Path.{_∙_, refl, sym}
 use borrow.Author.Needs.{needs}
 use Rattle.tables.specs.declared.Named.the-variants.{Known, Beyond}
-use Rattle.exports.proofs.Laying.{then-laid, triple-laid}
+use Rattle.laying.proofs.Laying.{then-laid}
+use Rattle.exports.proofs.Asked.{triple-laid}
 use Rattle.exports.proofs.koodhaxil_triple.Statement.{statement}
 use Rattle.exports.proofs.koodhaxil_triple.Tie as tie
 

@@ -1,7 +1,12 @@
 -- The reply to an answer of the veto build is handed back. Assumes nothing.
+use mathlib.Core.Logic.{_≢_}
+use mathlib.Core.Path.{subst, sym}
 use borrow.Author.Needs.{needs}
-use Rattle.building.specs.Builds.{buildTold}
-use Rattle.exports.proofs.Laying.{handed}
+use lib.ListN.{length}
+use Rattle.building.proofs.Faultless.{veto-not-six}
+use Rattle.building.specs.Builds.{answerTold, buildTold}
+use Rattle.building.specs.declared.Counted.{Counted}
+use Rattle.laying.proofs.Laying.{handed}
 use Rattle.exports.proofs.koodhaxil_veto.Statement.{statement}
 use Rattle.exports.proofs.koodhaxil_veto.Tie as tie
 
@@ -9,7 +14,10 @@ veto-requires : tie.Need-veto-requires
 veto-requires c κs = search needs
 
 build-requires : tie.Need-build-requires
-build-requires c κs = search needs
+build-requires c κs =
+    let b = c .before .before in
+    let a = b .before .before .before .before .before .args in
+    subst (λ (z : Counted). answerTold (z .answer) .number ≢ 6) (sym (b .veto .ensures .is)) (veto-not-six (a .n) (a .set) (a .t .now) (length (a .room .now)))
 
 lay-requires : tie.Need-lay-requires
 lay-requires c κs = search needs

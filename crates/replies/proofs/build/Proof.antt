@@ -1,25 +1,24 @@
--- What 0 returns, or the refusal. Assumes nothing.
-use mathlib.Core.Path.{_∙_}
+-- The reply to the answer, and the count behind it. Assumes nothing.
+use mathlib.Core.Path.{_∙_, ap, sym}
+use native.Mathlib.Omega.{arith}
 use borrow.Author.Needs.{needs}
-use Rattle.building.specs.Builds.{buildTold}
-use Rattle.replies.proofs.Replying.{reply-as}
+use lib.ListN.{length}
+use Rattle.replies.proofs.Behind.{answer-short, counted-behind}
+use Rattle.replies.specs.Plain.{Plain, behind}
 use Rattle.replies.proofs.build.Statement.{statement}
 use Rattle.replies.proofs.build.Tie as tie
 
-enum-known-a : tie.Need-enum-known-a
-enum-known-a c = search needs
+built-requires : tie.Need-built-requires
+built-requires c κs = search needs
 
-enum-known-a-2 : tie.Need-enum-known-a-2
-enum-known-a-2 c = search needs
-
-refusal-requires : tie.Need-refusal-requires
-refusal-requires c κs = search needs
+further-requires : tie.Need-further-requires
+further-requires c κs = omega (arith, ap (λ (p : Plain). length (p .items)) (c .built .ensures), answer-short (c .before .args .a .answer) (c .before .pre))
 
 returns : tie.Need-returns
-returns c = reply-as buildTold (c .before .a .given .1)
-
-returns-2 : tie.Need-returns-2
-returns-2 c = c .refusal .ensures ∙ reply-as buildTold (c .before .before .a2 .given .1)
+returns c =
+    let b = c .before in
+    let a = b .before .args .a in
+    c .further .ensures ∙ ap (λ (p : Plain). behind p (a .looked)) (b .built .ensures) ∙ sym (counted-behind a)
 
 pub build-spec : {M : Type 1} → statement M
-build-spec = tie.close (tie.spec enum-known-a enum-known-a-2 refusal-requires returns returns-2)
+build-spec = tie.close (tie.spec built-requires further-requires returns)

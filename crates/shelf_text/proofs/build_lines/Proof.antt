@@ -1,5 +1,5 @@
 -- The build's line, and the body behind it, which lies in the room. Assumes nothing.
-use mathlib.Core.Path.{_∙_, sym}
+use mathlib.Core.Path.{_∙_, ap, sym}
 use Prim.Native.Nat.{_≤_}
 use native.Mathlib.Omega.{arith}
 use borrow.Author.Needs.{needs}
@@ -7,6 +7,7 @@ use lib.ListN.{length}
 use lib.Seq.{length-take-le}
 use Rattle.bodies.specs.Nodes.{bodyLength, longest}
 use Rattle.building.proofs.Fits.{done-fits}
+use Rattle.building.specs.declared.Counted.{Counted}
 use Rattle.writing.proofs.Writing.{writes-as, writes-both}
 use Rattle.shelf_text.specs.Shelf.{build-word}
 use Rattle.shelf_text.proofs.Told.{done-told, line-few, refused-told}
@@ -27,7 +28,7 @@ inside : (c : tie.After-a) → bodyLength (c .a .given .0 .0 .nodes) ≤ longest
 inside c =
     let l = told c in
     let s = begun l .args in
-    done-fits (s .n) (s .set) (s .t .now) longest (c .a .given .0 .0) (sym (built l .build .ensures .is) ∙ c .a .given .1)
+    done-fits (s .n) (s .set) (s .t .now) longest (c .a .given .0 .0) (sym (ap (λ (z : Counted). z .answer) (built l .build .ensures .is)) ∙ c .a .given .1)
 
 abbrev done : tie.After-body-length → tie.After-a
 done b = b .before .before
@@ -93,7 +94,7 @@ returns c =
     let l = told a in
     let x = built l .build .ensures in
     let s = begun l .args in
-    let e = done-told (s .n) (s .set) (s .t .now) _ _ _ (l .before .build-numbers .ensures) (x .is) (x .holds) (a .a .given .0 .0) (b .body-length .result) (a .a .given .1) (b .body-length .ensures) in
+    let e = done-told (s .n) (s .set) (s .t .now) _ _ _ (l .before .build-numbers .ensures) (ap (λ (z : Counted). z .answer) (x .is)) (x .holds) (a .a .given .0 .0) (b .body-length .result) (a .a .given .1) (b .body-length .ensures) in
     writes-as _ _ _ _ _ _ e (writes-both _ _ _ _ _ _ _ _ (l .put-line .ensures) (d .body-lines .ensures))
 
 same-length-2 : tie.Need-same-length-2
@@ -104,7 +105,7 @@ returns-2 c =
     let l = c .before .before .before .before in
     let x = built l .build .ensures in
     let s = begun l .args in
-    writes-as _ _ _ _ _ _ (refused-told (s .n) (s .set) (s .t .now) _ _ _ (l .before .build-numbers .ensures) (x .is) (x .holds) (c .before .match .keys2)) (l .put-line .ensures)
+    writes-as _ _ _ _ _ _ (refused-told (s .n) (s .set) (s .t .now) _ _ _ (l .before .build-numbers .ensures) (ap (λ (z : Counted). z .answer) (x .is)) (x .holds) (c .before .match .keys2)) (l .put-line .ensures)
 
 pub build-lines-spec : {M : Type 1} → statement M
 build-lines-spec =

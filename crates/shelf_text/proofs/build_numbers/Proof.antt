@@ -5,14 +5,14 @@ use Rattle.shelf_text.specs.Shelf.{shownNumbers}
 use Rattle.shelf_text.proofs.build_numbers.Statement.{statement}
 use Rattle.shelf_text.proofs.build_numbers.Tie as tie
 
-build-requires : tie.Need-build-requires
-build-requires c κs = search needs
+built-requires : tie.Need-built-requires
+built-requires c κs = search needs
 
 shown-requires : tie.Need-shown-requires
 shown-requires c κs = search needs
 
 returns : tie.Need-returns
-returns c = c .shown .ensures ∙ ap shownNumbers (c .before .build .ensures)
+returns c = c .shown .ensures ∙ ap shownNumbers (c .before .built .ensures)
 
 pub build-numbers-spec : {M : Type 1} → statement M
-build-numbers-spec = tie.close (tie.spec build-requires shown-requires returns)
+build-numbers-spec = tie.close (tie.spec built-requires shown-requires returns)

@@ -6,7 +6,7 @@ use borrow.Author.Needs.{needs}
 use lib.ListN.{drop, length, length-append, take}
 use lib.Seq.{length-take-le, take-at}
 use Rattle.tables.proofs.Fillings.{table-length}
-use Rattle.tables.proofs.Indices.{C-more}
+use Rattle.trees.proofs.Combinations.{C-more}
 use Rattle.tables.proofs.Values.{C-64-3}
 use Rattle.tables.specs.Index.{C}
 use Rattle.collections.specs.Layout.{species, trees}

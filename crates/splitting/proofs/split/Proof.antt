@@ -10,17 +10,17 @@ use Rattle.splitting.proofs.split.Statement.{statement}
 use Rattle.splitting.proofs.split.Tie as tie
 
 abbrev Inv-loop : tie.InvT-loop
-Inv-loop t s parts₀ g rest₀ k₀ parts rest k = Listed (entered t) s parts₀ parts rest k
+Inv-loop t s parts₀ filled g rest₀ k₀ parts rest k = Listed (entered t) s parts₀ parts rest k
 
 abbrev μ-loop : tie.MeasureT-loop
-μ-loop t s parts₀ g rest₀ k₀ parts rest k = size rest
+μ-loop t s parts₀ filled g rest₀ k₀ parts rest k = size rest
 
 links-requires : tie.Need-links-requires Inv-loop μ-loop
 links-requires c κs = search needs
 
 loop-holds : tie.Need-loop-holds Inv-loop μ-loop
 loop-holds c =
-    let a = c .before .before .args in
+    let a = c .before .before .before .args in
     listed-start (entered (a .t .now)) (entered-proper (a .t .now)) (a .s) (omega arith) (a .parts .now)
 
 lowest-requires : tie.Need-lowest-requires Inv-loop μ-loop
@@ -35,14 +35,14 @@ module _ (c : tie.After-part Inv-loop μ-loop) where
   at = c .before .before .before .before
 
   abbrev start : tie.Start Inv-loop μ-loop
-  start = at .before .before .before
+  start = at .before .before .before .before
 
   next : Next (entered (start .args .t .now)) (start .args .s) (start .args .parts .now) (at .loop .parts) (at .loop .rest) (at .loop .k) (c .part .result)
   next =
       let t = start .args .t .now in
       let l = at .loop in
       let k = c .before in
-      listed-next (entered t) (entered-proper t) (start .args .s) (omega arith) _ (at .before .links .ensures) (start .args .parts .now) (l .parts) (l .rest) (l .k)
+      listed-next (entered t) (entered-proper t) (start .args .s) (omega arith) _ (at .before .before .links .ensures .0) (start .args .parts .now) (l .parts) (l .rest) (l .k)
       (k .before .before .loop-test .taken) (k .lowest .result) (k .lowest .ensures) (c .part .result) (omega arith) (c .part .ensures) (l .inv)
 
 -- and it is no longer left
@@ -70,8 +70,9 @@ loop-again c = next (c .before) .more (c .minus .result) (gone c)
 returns : tie.Need-returns Inv-loop μ-loop
 returns c =
     let l = c .before .loop in
-    let a = c .before .before .before .before .args in
-    listed-end (entered (a .t .now)) (entered-proper (a .t .now)) (a .s) (omega arith) (a .parts .now) (l .parts) (l .rest) (l .k) (c .loop-test .left) (l .inv)
+    let a = c .before .before .before .before .before .args in
+    let e = listed-end (entered (a .t .now)) (entered-proper (a .t .now)) (a .s) (omega arith) (a .parts .now) (l .parts) (l .rest) (l .k) (c .loop-test .left) (l .inv) in
+    (e .0, (e .1, c .before .before .before .links .ensures .1))
 
 pub split-spec : {M : Type 1} → statement M
 split-spec =

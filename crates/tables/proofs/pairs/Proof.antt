@@ -3,7 +3,8 @@ use mathlib.Core.Path.{_≡_, sym, ap, _∙_}
 use Prim.Native.Nat.{ℕ}
 use native.Mathlib.Omega.{arith}
 use Rattle.tables.specs.Index.{C}
-use Rattle.tables.proofs.Indices.{C-none, two-small, halves}
+use Rattle.trees.proofs.Combinations.{C-none}
+use Rattle.tables.proofs.Indices.{two-small, halves}
 use Rattle.tables.proofs.pairs.Statement.{statement}
 use Rattle.tables.proofs.pairs.Tie as tie
 

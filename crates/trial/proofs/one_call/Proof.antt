@@ -2,7 +2,7 @@
 use native.Mathlib.Omega.{arith}
 use borrow.Author.Needs.{needs}
 use Rattle.calls.specs.Calls.{fieldsOf}
-use Rattle.trial.proofs.Made.{one-call}
+use Rattle.trial.proofs.OneCall.{one-call}
 use Rattle.trial.proofs.one_call.Statement.{statement}
 use Rattle.trial.proofs.one_call.Tie as tie
 

@@ -1,0 +1,71 @@
+-- The sets up to i are laid out. Assumes nothing.
+use mathlib.Core.Path.{_∙_, _≡_, ap, refl}
+use Prim.Native.Nat.{_+_, _-_, _≤_, _/_}
+use native.Mathlib.Omega.{arith}
+use borrow.Author.Needs.{needs}
+use lib.ListN.{length, length-set, set, take}
+use Rattle.items.specs.Items.{setAt, itemsUpTo}
+use Rattle.items.proofs.Items.{items-more}
+use Rattle.items.proofs.gather_sets.Statement.{statement}
+use Rattle.items.proofs.gather_sets.Tie as tie
+
+abbrev Inv-loop : tie.InvT-loop
+Inv-loop b list₀ m i₀ list i = (length list ≡ length list₀) × (i ≤ m) × (take i list ≡ itemsUpTo (setAt b) i)
+
+abbrev μ-loop : tie.MeasureT-loop
+μ-loop b list₀ m i₀ list i = m - i
+
+loop-holds : tie.Need-loop-holds Inv-loop μ-loop
+unfolding itemsUpTo
+loop-holds c = (refl, omega arith, refl)
+
+mul-eight : tie.Need-mul-eight Inv-loop μ-loop
+mul-eight c = search needs
+
+eight-requires : tie.Need-eight-requires Inv-loop μ-loop
+eight-requires c κs = search needs
+
+mul-list : tie.Need-mul-list Inv-loop μ-loop
+mul-list c = search needs
+
+slice-write-list : tie.Need-slice-write-list Inv-loop μ-loop
+slice-write-list c = search needs
+
+add-i : tie.Need-add-i Inv-loop μ-loop
+add-i c = search needs
+
+loop-less : tie.Need-loop-less Inv-loop μ-loop
+loop-less c = search needs
+
+loop-again : tie.Need-loop-again Inv-loop μ-loop
+loop-again c =
+    let x = c .before .before in
+    let v = x .loop .inv in
+    let b = x .before .before .before .args .b .now in
+    (simp length-set (v .0), omega arith, ap (λ r. take (x .loop .i + 1) (set (x .loop .list) (x .loop .i) r)) (c .eight .ensures) ∙ items-more (setAt b) (x .loop .list) (x .loop .i) (omega arith) (v .2))
+
+same-length : tie.Need-same-length Inv-loop μ-loop
+same-length c = search needs
+
+returns : tie.Need-returns Inv-loop μ-loop
+returns c =
+    let v = c .before .loop .inv in
+    let e : c .before .loop .i ≡ length (c .before .before .before .before .args .b .now) / 8 = omega arith in
+    (refl, rw e at (v .2))
+
+pub gather-sets-spec : {M : Type 1} → statement M
+gather-sets-spec =
+    tie.close
+    (tie.spec
+    Inv-loop
+    μ-loop
+    loop-holds
+    mul-eight
+    eight-requires
+    mul-list
+    slice-write-list
+    add-i
+    loop-less
+    loop-again
+    same-length
+    returns)

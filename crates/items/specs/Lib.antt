@@ -1,0 +1,2 @@
+-- The items of a field: definitions only.
+pub mod Items

@@ -1,0 +1,2 @@
+-- The laws of laying down and of handing back.
+pub mod Laying

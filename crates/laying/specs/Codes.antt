@@ -1,0 +1,39 @@
+-- What document 01 returns with a number, as plain numbers laid into lent room. Document 01, "Numbers handed back".
+use mathlib.Core.List.{List, [], _∷_, _++_}
+use mathlib.Core.Path.{_≡_}
+use Prim.Native.Nat.{ℕ}
+use Rattle.bodies.specs.declared.Fault.{Fault}
+use Rattle.bodies.specs.declared.Fault.the-variants.{BadParent, BadSpecies, SeenBefore, OnlyChild}
+use Rattle.answers.specs.Answers.{Told}
+use Rattle.replies.specs.Plain.{Item, plain-number, broken-rule, Plain, plain}
+
+-- which fault, 1 to 4 in document 01's order, and its own data: "bad parent (that parent), bad species (it), species seen before (the earlier
+-- node), or only child", which has none and gives 0
+abbrev pub faultCode : Fault → List ℕ
+faultCode (BadParent p) = 1 ∷ p ∷ []
+faultCode (BadSpecies s) = 2 ∷ s ∷ []
+faultCode (SeenBefore i) = 3 ∷ i ∷ []
+faultCode OnlyChild = 4 ∷ 0 ∷ []
+
+abbrev pub code : Item → List ℕ
+code (plain-number x) = x ∷ []
+code (broken-rule f) = faultCode f
+
+abbrev pub codes : List Item → List ℕ
+codes [] = []
+codes (i ∷ l) = code i ++ codes l
+
+-- o with the numbers laid over it from place 0 on, as far as there is room; its length is kept
+abbrev pub laid : List ℕ → List ℕ → List ℕ
+laid [] o = o
+laid (v ∷ vs) [] = []
+laid (v ∷ vs) (x ∷ o) = v ∷ laid vs o
+
+-- p was laid down: its number is the result r, and its items are laid over o, which gives o'
+pub record Lays (p : Plain) (o : List ℕ) (r : ℕ) (o' : List ℕ) : Type 0 where
+  pub is : r ≡ p .number
+  pub holds : o' ≡ laid (codes (p .items)) o
+
+-- what is told was handed back
+abbrev pub Handed : Told → List ℕ → ℕ → List ℕ → Type 0
+Handed t = Lays (plain t)

@@ -1,0 +1,2 @@
+-- What is laid into lent numbers: definitions only.
+pub mod Codes

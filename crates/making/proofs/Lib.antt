@@ -1,0 +1,2 @@
+-- Laws of what is written for a call.
+pub mod Made

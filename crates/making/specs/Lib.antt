@@ -1,0 +1,2 @@
+-- What is written for a call: definitions only.
+pub mod Made

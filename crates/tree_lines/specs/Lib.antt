@@ -1,0 +1,2 @@
+-- The lines of calls on trees: definitions only.
+pub mod Lines
