@@ -1,4 +1,4 @@
-//! Compares what trial and shelf write with what this program says, byte by byte.
+//! Compares what trial, shelf and pull write with what this program says, byte by byte.
 
 use std::collections::BTreeMap;
 use std::path::PathBuf;
@@ -8,6 +8,7 @@ use std::sync::Mutex;
 
 use crate::calls::{lines, Answer, Call};
 use crate::operations::most_looked_at;
+use crate::papers::Form;
 use crate::programs::{Feed, Program, Programs, Run, AT_A_TIME};
 
 /// A batch is one run of trial; it is closed when it passes one of these.
@@ -26,7 +27,8 @@ pub const FEWER_LOOKED_AT: &str = "fewer";
 pub const MOST_LOOKED_AT: &str = "the most";
 
 /// How often each number of each operation came, each fault, each byte in the tables that were listed, how often so many
-/// sets were dropped, and how often a build that gave each number looked at so many triples.
+/// sets were dropped, how often a build that gave each number looked at so many triples, and how often each form of pull
+/// was reached.
 #[derive(Default)]
 pub struct Counts {
     pub numbers: BTreeMap<(char, u8), u64>,
@@ -34,6 +36,7 @@ pub struct Counts {
     pub listed: BTreeMap<u8, u64>,
     pub dropped: BTreeMap<u64, u64>,
     pub looked: BTreeMap<(char, u8, &'static str), u64>,
+    pub forms: BTreeMap<Form, u64>,
 }
 
 impl Counts {
@@ -71,6 +74,7 @@ impl Counts {
         add_each(&mut self.listed, more.listed);
         add_each(&mut self.dropped, more.dropped);
         add_each(&mut self.looked, more.looked);
+        add_each(&mut self.forms, more.forms);
     }
 }
 

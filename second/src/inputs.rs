@@ -256,7 +256,7 @@ impl Inputs {
         let mut less = tree.clone();
         if self.random.chance(1, 2) {
             let keep = self.random.next() | self.random.next();
-            less = restricted(&less, keep).unwrap_or(less);
+            less = less.cut(keep).unwrap_or(less);
         }
         if self.random.chance(1, 3) {
             let of = self.random.between(2, 5);
@@ -459,7 +459,7 @@ impl Inputs {
                 self.random.shuffle(&mut species);
                 let few = &species[..self.random.between(3, 4).min(n)];
                 let keep = few.iter().fold(0, |set, &i| set | one(i));
-                let paper = restricted(&whole, keep).expect("some species are left");
+                let paper = whole.cut(keep).expect("some species are left");
                 if self.random.chance(1, 20) {
                     self.exchanged(&paper, few)
                 } else {
@@ -474,6 +474,24 @@ impl Inputs {
         let n = self.species().max(4);
         let papers = self.small_papers(n);
         (n, self.collection_of(n, &papers))
+    }
+
+    /// One to 16 trees of up to n species, of any of these kinds; or small ones with a quarrel about few species.
+    pub fn some_papers(&mut self, n: usize) -> Vec<Tree> {
+        match self.random.below(5) {
+            0 => self.quarrel(n),
+            1 => self.small_papers(n),
+            2 => {
+                let mut papers = self.quarrel(n.min(4));
+                papers.extend(self.small_papers(n));
+                papers.truncate(16);
+                papers
+            }
+            kind => {
+                let count = if kind == 3 { self.random.between(1, 3) } else { self.random.between(4, 16) };
+                self.papers(n, count)
+            }
+        }
     }
 
     // ---- collections
@@ -823,7 +841,7 @@ impl Inputs {
             let mut species: Vec<usize> = members(tree.species()).collect();
             self.random.shuffle(&mut species);
             let keep = species[..SLOW_ABOVE as usize].iter().fold(0, |set, &i| set | one(i));
-            tree = restricted(&tree, keep).expect("some species are left");
+            tree = tree.cut(keep).expect("some species are left");
         } else if slow {
             self.slow_checks += 1;
             return Call::Check { n: n as u64, table, body: self.body(&tree) };
@@ -901,19 +919,4 @@ impl Inputs {
 /// The species of these trees.
 fn occur(papers: &[Tree]) -> u64 {
     papers.iter().fold(0, |set, tree| set | tree.species())
-}
-
-/// The tree with only the species of a set, where it has any of them.
-fn restricted(tree: &Tree, keep: u64) -> Option<Tree> {
-    match tree {
-        Tree::Leaf(i) => (keep & one(*i) != 0).then(|| tree.clone()),
-        Tree::Inner(children) => {
-            let mut kept: Vec<Tree> = children.iter().filter_map(|t| restricted(t, keep)).collect();
-            match kept.len() {
-                0 => None,
-                1 => kept.pop(),
-                _ => Some(Tree::Inner(kept)),
-            }
-        }
-    }
 }

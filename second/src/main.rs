@@ -14,8 +14,10 @@ mod loosening;
 mod named;
 mod newick;
 mod operations;
+mod papers;
 mod programs;
 mod protocol;
+mod pull;
 mod random;
 mod rounds;
 mod shelf;
@@ -38,6 +40,7 @@ use programs::{Feed, Program, Programs};
 const CALLS: u64 = 100_000;
 const SEED: u64 = 1;
 const TEXTS: usize = 5;
+const INPUTS: usize = 2_000;
 
 /// Every number that each operation has, and every fault of its refusal 6.
 const NUMBERS: [(char, &str, &[u8], &[&str]); 10] = [
@@ -65,8 +68,9 @@ const LOOKED: [(char, &str, u8, &[&str]); 3] = [
 fn main() -> ExitCode {
     let words: Vec<String> = std::env::args().skip(1).collect();
     match words.first().map(String::as_str) {
-        Some("answer") if words.len() == 1 => write(&calls::lines(&input())),
-        Some("shelf") if words.len() == 1 => write(shelf::shelf(&input()).as_bytes()),
+        Some("answer") if words.len() == 1 => write(&says(Program::Trial, &input())),
+        Some("shelf") if words.len() == 1 => write(&says(Program::Shelf, &input())),
+        Some("pull") if words.len() == 1 => write(&says(Program::Pull, &input())),
         Some("named") if words.len() == 1 => match named::alone() {
             0 => ExitCode::SUCCESS,
             _ => ExitCode::FAILURE,
@@ -79,9 +83,11 @@ fn main() -> ExitCode {
 fn usage() -> ExitCode {
     eprintln!("second answer < CALLS       the lines that trial has to write");
     eprintln!("second shelf < COLLECTION   what shelf has to write");
+    eprintln!("second pull < TEXTS         what pull has to write");
     eprintln!("second named                the runs by name, without the proved programs");
-    eprintln!("second compare [--calls N] [--seed S] [--texts L] [--trial FILE] [--shelf FILE] -- [WORDS]");
-    eprintln!("                            compares target/bin/trial and target/bin/shelf, which");
+    eprintln!("second compare [--calls N] [--seed S] [--texts L] [--inputs N]");
+    eprintln!("               [--trial FILE] [--shelf FILE] [--pull FILE] -- [WORDS]");
+    eprintln!("                            compares trial, shelf and pull in target/bin, which");
     eprintln!("                            WORDS run; .ci/compare/second calls it");
     ExitCode::from(2)
 }
@@ -100,7 +106,7 @@ fn write(bytes: &[u8]) -> ExitCode {
 }
 
 fn compare(words: &[String]) -> ExitCode {
-    let (mut calls, mut seed, mut texts, mut again) = (CALLS, SEED, TEXTS, Vec::new());
+    let (mut calls, mut seed, mut texts, mut inputs, mut again) = (CALLS, SEED, TEXTS, INPUTS, Vec::new());
     let mut words = words.iter();
     while let Some(word) = words.next() {
         if word == "--" {
@@ -111,16 +117,27 @@ fn compare(words: &[String]) -> ExitCode {
             ("--calls", _, Some(number)) => calls = number,
             ("--seed", _, Some(number)) => seed = number,
             ("--texts", _, Some(number)) => texts = number as usize,
+            ("--inputs", _, Some(number)) => inputs = number as usize,
             ("--trial", Some(file), _) => again.push((Program::Trial, file.clone())),
             ("--shelf", Some(file), _) => again.push((Program::Shelf, file.clone())),
+            ("--pull", Some(file), _) => again.push((Program::Pull, file.clone())),
             _ => return usage(),
         }
     }
     let programs = Programs { words: words.cloned().collect() };
     if again.is_empty() {
-        compare_all(programs, calls, seed, texts)
+        compare_all(programs, calls, seed, texts, inputs)
     } else {
         compare_again(&programs, &again)
+    }
+}
+
+/// What a program has to write for an input.
+fn says(program: Program, input: &[u8]) -> Vec<u8> {
+    match program {
+        Program::Trial => calls::lines(input),
+        Program::Shelf => shelf::shelf(input).into_bytes(),
+        Program::Pull => pull::pull(input).into_bytes(),
     }
 }
 
@@ -135,10 +152,7 @@ fn compare_again(programs: &Programs, again: &[(Program, String)]) -> ExitCode {
                 return ExitCode::from(2);
             }
         };
-        let says = match program {
-            Program::Trial => calls::lines(&input),
-            Program::Shelf => shelf::shelf(&input).into_bytes(),
-        };
+        let says = says(*program, &input);
         let run = programs.run(*program, input, Feed::Whole);
         println!("{} writes:\n{}", program.name(), shown(&run.wrote));
         if let Some(trouble) = &run.trouble {
@@ -157,7 +171,7 @@ fn compare_again(programs: &Programs, again: &[(Program, String)]) -> ExitCode {
     }
 }
 
-fn compare_all(programs: Programs, calls: u64, seed: u64, texts: usize) -> ExitCode {
+fn compare_all(programs: Programs, calls: u64, seed: u64, texts: usize, inputs: usize) -> ExitCode {
     let folder = PathBuf::from("target/second");
     if let Ok(files) = std::fs::read_dir(&folder) {
         for file in files.flatten() {
@@ -174,6 +188,11 @@ fn compare_all(programs: Programs, calls: u64, seed: u64, texts: usize) -> ExitC
     });
     part(&mut comparison, "shelf, one run each", |c| {
         c.runs(Program::Shelf, &collections::cases(seed));
+    });
+    part(&mut comparison, "pull, one run each", |c| {
+        let cases = papers::cases(seed);
+        papers::count_forms(&cases, &mut c.counts.forms);
+        c.runs(Program::Pull, &cases);
     });
     part(&mut comparison, "all tables, sets and candidates up to n = 4", |c| {
         induced::tell();
@@ -220,6 +239,11 @@ fn compare_all(programs: Programs, calls: u64, seed: u64, texts: usize) -> ExitC
         |c| rounds::compare(c, seed),
     );
     let fixed = std::mem::take(&mut comparison.counts);
+    part(&mut comparison, "pull, random inputs", |c| {
+        let cases = papers::random_cases(seed, inputs);
+        papers::count_forms(&cases, &mut c.counts.forms);
+        c.runs(Program::Pull, &cases);
+    });
     let mut made = (0, 0);
     part(&mut comparison, "random calls", |c| {
         c.calls(|push| {
@@ -242,8 +266,13 @@ fn compare_all(programs: Programs, calls: u64, seed: u64, texts: usize) -> ExitC
     for what in &never {
         println!("second: never came among the random calls: {what}");
     }
+    println!("second: how often each form of pull was reached, by the fixed inputs and by the random ones:");
+    let not_reached = tell_forms(&fixed, &comparison.counts);
+    for what in &not_reached {
+        println!("second: never reached by the random inputs: {what}");
+    }
     println!("second: {} calls, {} differ (seed {seed})", comparison.compared, comparison.differ);
-    let met = never.is_empty() || calls < CALLS;
+    let met = (never.is_empty() || calls < CALLS) && (not_reached.is_empty() || inputs < INPUTS);
     if comparison.differ == 0 && met {
         ExitCode::SUCCESS
     } else {
@@ -285,6 +314,15 @@ fn tell_counts(fixed: &Counts, random: &Counts) -> Vec<String> {
         never.extend(tell_line(&format!("{name:<6} {number:>2}, triples:"), keys, &fixed.looked, &random.looked));
     }
     never
+}
+
+/// Prints how often each form of pull was reached; returns those that never were by the random inputs.
+fn tell_forms(fixed: &Counts, random: &Counts) -> Vec<String> {
+    let told = papers::FORMS.iter().map(|&(kind, words)| {
+        let keys = words.iter().map(|&word| (word.to_string(), (kind, word)));
+        tell_line(&format!("{kind}:"), keys, &fixed.forms, &random.forms)
+    });
+    told.flatten().collect()
 }
 
 /// One line of it: each word, with how often its key came.

@@ -1,19 +1,20 @@
 //! Runs by name, each with its outcome written out by hand: those of document 01, worked examples of
 //! its source papers, Newick texts, read and written (document 02, T-01 and T-02), sets that occur (T-03), fans in
-//! tables (T-05), builds with a veto (T-06), trees that are loosened (T-07), the check in the papers' own words (T-08), and the
-//! triples that a build looks at (T-09).
+//! tables (T-05), builds with a veto (T-06), trees that are loosened (T-07), the check in the papers' own words (T-08), the
+//! triples that a build looks at (T-09), and what pull prints.
 
 use crate::calls::Call;
 use crate::compare::{shown, split, Comparison};
 use crate::limits::{halves, ladder};
 use crate::newick;
 use crate::programs::{Feed, Program, Run};
-use crate::shelf::shelf;
+use crate::says;
 use crate::triples::{all, choose};
 
 struct Runs {
     calls: Vec<(String, Call, String)>,
     shelf: Vec<(String, Vec<u8>, String)>,
+    pull: Vec<(String, Vec<u8>, String)>,
 }
 
 impl Runs {
@@ -107,6 +108,21 @@ impl Runs {
 
     fn shelf(&mut self, name: &str, bytes: &[u8], output: &str) {
         self.shelf.push((name.to_string(), bytes.to_vec(), output.to_string()));
+    }
+
+    fn pull(&mut self, name: &str, input: &str, lines: &[&str]) {
+        let output = lines.iter().map(|line| format!("{line}\n")).collect();
+        self.pull.push((name.to_string(), input.as_bytes().to_vec(), output));
+    }
+
+    /// An input that is refused; it is named by itself.
+    fn pull_refused(&mut self, input: &str, why: &str) {
+        self.pull(&format!("{:?}", short(input)), input, &[&format!("refused: {why}")]);
+    }
+
+    /// The same where the mistake is in the first paper and its first line, at a column.
+    fn mistake(&mut self, input: &str, column: usize, what: &str) {
+        self.pull_refused(input, &format!("paper 1, line 1, column {column}: {what}"));
     }
 }
 
@@ -1188,8 +1204,186 @@ fn texts_written(runs: &mut Runs) {
     runs.render_refused(64, &[255, 9], 1, "9");
 }
 
+/// The examples for pull, and papers of few species.
+fn pulled(runs: &mut Runs) {
+    runs.pull(
+        "papers-agree",
+        include_str!("../../examples/papers-agree"),
+        &[
+            "paper 1: (((0,1),2),(3,4));",
+            "paper 2: ((0,2),(3,4),5);",
+            "built: (((0,1),2),(3,4),5);",
+            "every group is the papers' own",
+            "may be sent: (((0,1),2),(3,4),5);",
+            "pull together: 0 1 2",
+            "pull together: 0 1",
+            "pull together: 3 4",
+        ],
+    );
+    runs.pull(
+        "papers-gap",
+        include_str!("../../examples/papers-gap"),
+        &[
+            "paper 1: ((0,1),2);",
+            "paper 2: ((0,1),(3,(4,5)));",
+            "built: ((0,1),2,(3,(4,5)));",
+            "not forced by the papers: 3 and 4 closer to each other than to 2",
+            "may be sent: ((0,1),2,3,4,5);",
+            "dropped: 3 4 5",
+            "dropped: 4 5",
+            "pull together: 0 1",
+        ],
+    );
+    runs.pull(
+        "papers-quarrel",
+        include_str!("../../examples/papers-quarrel"),
+        &[
+            "paper 1: (((0,1),2),3);",
+            "paper 2: (((0,2),1),3);",
+            "paper 3: ((1,3),4);",
+            "the papers quarrel over 0 1 2",
+            "paper 1 says of these: ((0,1),2);",
+            "paper 2 says of these: ((0,2),1);",
+            "paper 3 says nothing of these",
+            "built, leaving that open: (((0,1,2),3),4);",
+            "every group is the papers' own",
+            "may be sent: (((0,1,2),3),4);",
+            "pull together: 0 1 2 3",
+            "pull together: 0 1 2",
+        ],
+    );
+    runs.pull(
+        "papers-author",
+        include_str!("../../examples/papers-author"),
+        &[
+            "paper 1: ((0,1),(2,(3,4)),5);",
+            "paper 2: ((0,1),((3,4),6),5);",
+            "built: ((0,1),(2,(3,4),6),5);",
+            "every group is the papers' own",
+            "may be sent: ((0,1),(2,(3,4),6),5);",
+            "pull together: 0 1",
+            "pull together: 2 3 4 6",
+            "pull together: 3 4",
+        ],
+    );
+    runs.pull(
+        "papers-broken",
+        include_str!("../../examples/papers-broken"),
+        &["refused: paper 2, line 3, column 8: found 'M', expected a digit or an opening bracket"],
+    );
+    runs.pull(
+        "two papers of one species each",
+        "5;3;",
+        &[
+            "paper 1: 5;",
+            "paper 2: 3;",
+            "built: (3,5);",
+            "every group is the papers' own",
+            "may be sent: (3,5);",
+            "pull nothing together: the tree has no group",
+        ],
+    );
+    runs.pull(
+        "a quarrel and a gap",
+        "((0,1),2);((0,2),1);((3,4),5);",
+        &[
+            "paper 1: ((0,1),2);",
+            "paper 2: ((0,2),1);",
+            "paper 3: ((3,4),5);",
+            "the papers quarrel over 0 1 2",
+            "paper 1 says of these: ((0,1),2);",
+            "paper 2 says of these: ((0,2),1);",
+            "paper 3 says nothing of these",
+            "built, leaving that open: ((0,1,2),(3,4),5);",
+            "not forced by the papers: 0 and 1 closer to each other than to 3",
+            "may be sent: (0,1,2,3,4,5);",
+            "dropped: 0 1 2",
+            "dropped: 3 4",
+            "pull nothing together: the tree has no group",
+        ],
+    );
+    runs.pull(
+        "two quarrels, of which one is named",
+        "(((0,1),2,9),((5,6),7));(((0,2),1),((5,7),6));(1,2);",
+        &[
+            "paper 1: (((0,1),2,9),((5,6),7));",
+            "paper 2: (((0,2),1),((5,7),6));",
+            "paper 3: (1,2);",
+            "the papers quarrel over 0 1 2",
+            "paper 1 says of these: ((0,1),2);",
+            "paper 2 says of these: ((0,2),1);",
+            "paper 3 says nothing of these",
+            "built, leaving that open: (((0,1,2),9),(5,6,7));",
+            "not forced by the papers: 0 and 2 closer to each other than to 9",
+            "may be sent: ((0,1,2,9),(5,6,7));",
+            "dropped: 0 1 2",
+            "pull together: 0 1 2 9",
+            "pull together: 5 6 7",
+        ],
+    );
+}
+
+/// Inputs that pull refuses: each form of its line.
+fn pull_refused(runs: &mut Runs) {
+    let blanks = " ".repeat(65_536);
+    for input in ["", " ", "\r\n", &blanks] {
+        runs.pull_refused(input, "no paper");
+    }
+    runs.pull_refused(&format!("{blanks} "), "more than 65536 bytes");
+    for behind in ["0;", "x", ";", "0"] {
+        runs.pull_refused(&format!("{}{behind}", "0;".repeat(16)), "more than 16 papers");
+    }
+    let sixteenth = format!("{}x;0;", "0;".repeat(15));
+    runs.pull_refused(&sixteenth, "paper 16, line 1, column 31: found 'x', expected a digit or an opening bracket");
+
+    runs.mistake(";", 1, "found ';', expected a digit or an opening bracket");
+    runs.mistake("()", 2, "found ')', expected a digit or an opening bracket");
+    runs.mistake("((0,1),2;", 9, "found ';', expected a digit or a closing bracket or a comma or a colon");
+    runs.mistake("(0x", 3, "found 'x', expected a closing bracket or a comma or a colon");
+    runs.mistake("(0:1x", 5, "found 'x', expected a digit or a closing bracket or a comma or a point");
+    runs.mistake("(0:1.5x", 7, "found 'x', expected a digit or a closing bracket or a comma");
+    runs.mistake("(0:1 x", 6, "found 'x', expected a closing bracket or a comma");
+    runs.mistake("0x", 2, "found 'x', expected a colon or a semicolon");
+    runs.mistake("0,1;", 2, "found ',', expected a colon or a semicolon");
+    runs.mistake("1'", 2, "found ''', expected a digit or a colon or a semicolon");
+    runs.mistake("0:x", 3, "found 'x', expected a digit");
+    runs.mistake("0:1x", 4, "found 'x', expected a digit or a point or a semicolon");
+    runs.mistake("0:1.x", 5, "found 'x', expected a digit");
+    runs.mistake("0:1.5x", 6, "found 'x', expected a digit or a semicolon");
+    runs.mistake("0:1 .5;", 5, "found '.', expected a semicolon");
+    runs.mistake("0:1. 5;", 5, "found a blank, expected a digit");
+    runs.mistake("0:1.\n5;", 5, "found a blank, expected a digit");
+    runs.mistake("(0,1)", 6, "found the end, expected a colon or a semicolon");
+    runs.mistake("(0\t,1);", 3, "found byte 9, expected a closing bracket or a comma or a colon");
+    runs.mistake("(0\u{7f}", 3, "found byte 127, expected a closing bracket or a comma or a colon");
+    runs.mistake("(0~", 3, "found '~', expected a closing bracket or a comma or a colon");
+    runs.mistake("(0!", 3, "found '!', expected a closing bracket or a comma or a colon");
+    // byte 13 ends no line
+    runs.mistake("0\r1;", 3, "found '1', expected a colon or a semicolon");
+    runs.pull_refused("0;\n0 1;", "paper 2, line 2, column 3: found '1', expected a colon or a semicolon");
+    runs.pull_refused("0;00;", "paper 2, line 1, column 4: found '0', expected a colon or a semicolon");
+    runs.pull_refused("\n\n (0,\n", "paper 1, line 4, column 1: found the end, expected a digit or an opening bracket");
+
+    // the limits
+    runs.mistake(&"(".repeat(64), 64, "found '(', expected a digit");
+    runs.mistake(&format!("({}0);", "0,".repeat(126)), 254, "found '0', expected nothing more");
+    runs.mistake("255;", 3, "found '5', expected a digit or a colon or a semicolon");
+    runs.mistake("260;", 3, "found '0', expected a colon or a semicolon");
+    for (text, blanks) in [("(0,1);", 4_091), ("(0,1)", 4_091), ("(0,1", 4_093), ("x", 4_096)] {
+        runs.mistake(&format!("{}{text}", " ".repeat(blanks)), 4_097, "a text has at most 4096 bytes");
+    }
+
+    // the rules of trees
+    runs.mistake("(0,64);", 4, "species 64, and the highest is 63");
+    runs.mistake("( 1 , 1 );", 7, "this species stands twice");
+    runs.mistake("(0:1, (1:2):3);", 7, "this bracket has one child");
+    runs.mistake("((7),7,99);", 2, "this bracket has one child");
+    runs.mistake("(7,99,(7));", 4, "species 99, and the highest is 63");
+    runs.pull_refused("0;(0,\n254);", "paper 2, line 2, column 1: species 254, and the highest is 63");
+}
+
 fn all_runs() -> Runs {
-    let mut runs = Runs { calls: Vec::new(), shelf: Vec::new() };
+    let mut runs = Runs { calls: Vec::new(), shelf: Vec::new(), pull: Vec::new() };
     document_01(&mut runs);
     papers(&mut runs);
     sets_returned(&mut runs);
@@ -1205,6 +1399,8 @@ fn all_runs() -> Runs {
     texts_read(&mut runs);
     texts_refused(&mut runs);
     texts_written(&mut runs);
+    pulled(&mut runs);
+    pull_refused(&mut runs);
     runs
 }
 
@@ -1229,8 +1425,10 @@ pub fn alone() -> usize {
     for (name, call, line) in &runs.calls {
         tell(name, line, &call.answer().line);
     }
-    for (name, input, output) in &runs.shelf {
-        tell(&format!("shelf, {name}"), output, &shelf(input));
+    for (program, runs) in [(Program::Shelf, &runs.shelf), (Program::Pull, &runs.pull)] {
+        for (name, input, output) in runs {
+            tell(&format!("{}, {name}", program.name()), output, &shown(&says(program, input)));
+        }
     }
     missed
 }
@@ -1250,14 +1448,15 @@ pub fn compare(comparison: &mut Comparison) {
         let input: Vec<u8> = runs.calls.iter().flat_map(|(_, call, _)| call.bytes()).collect();
         comparison.differs(Program::Trial, "the named runs", &input, &run, b"");
     }
-    let inputs: Vec<(Vec<u8>, Feed)> = runs.shelf.iter().map(|(_, input, _)| (input.clone(), Feed::Whole)).collect();
-    let given = comparison.programs.run_each(Program::Shelf, &inputs);
-    for ((name, input, output), run) in runs.shelf.iter().zip(&given) {
-        let own = shelf(input);
-        let (expected, own) = (output.as_bytes(), own.as_bytes());
-        tell(comparison, Program::Shelf, name, input, expected, own, &run.wrote);
-        if run.trouble.is_some() {
-            comparison.differs(Program::Shelf, name, input, run, expected);
+    for (program, runs) in [(Program::Shelf, &runs.shelf), (Program::Pull, &runs.pull)] {
+        let inputs: Vec<(Vec<u8>, Feed)> = runs.iter().map(|(_, input, _)| (input.clone(), Feed::Whole)).collect();
+        let given = comparison.programs.run_each(program, &inputs);
+        for ((name, input, output), run) in runs.iter().zip(&given) {
+            let (expected, own) = (output.as_bytes(), says(program, input));
+            tell(comparison, program, name, input, expected, &own, &run.wrote);
+            if run.trouble.is_some() {
+                comparison.differs(program, name, input, run, expected);
+            }
         }
     }
 }

@@ -1,4 +1,4 @@
-//! Runs trial and shelf as child processes.
+//! Runs trial, shelf and pull as child processes.
 
 use std::io::{Read, Write};
 use std::process::{Command, Stdio};
@@ -17,6 +17,7 @@ pub const AT_A_TIME: usize = 2;
 pub enum Program {
     Trial,
     Shelf,
+    Pull,
 }
 
 impl Program {
@@ -24,6 +25,7 @@ impl Program {
         match self {
             Program::Trial => "trial",
             Program::Shelf => "shelf",
+            Program::Pull => "pull",
         }
     }
 }

@@ -94,6 +94,22 @@ impl Tree {
         }
     }
 
+    /// The tree cut to a set: species outside it go, and a node of which one child is left becomes that child. None
+    /// where no species is left.
+    pub fn cut(&self, set: u64) -> Option<Tree> {
+        match self {
+            Tree::Leaf(i) => has(set, *i).then(|| self.clone()),
+            Tree::Inner(children) => {
+                let mut left: Vec<Tree> = children.iter().filter_map(|child| child.cut(set)).collect();
+                match left.len() {
+                    0 => None,
+                    1 => left.pop(),
+                    _ => Some(Tree::Inner(left)),
+                }
+            }
+        }
+    }
+
     /// The same tree with the children of each node by their lowest species.
     pub fn sorted(&self) -> Tree {
         match self {

@@ -5,7 +5,12 @@ use crate::triples::has;
 
 /// "Newick without lengths or blanks, in house order, semicolon last".
 pub fn text(tree: &Tree) -> Vec<u8> {
-    format!("{};", subtree(&tree.sorted())).into_bytes()
+    text_as_it_stands(&tree.sorted()).into_bytes()
+}
+
+/// The same with the children in the tree's order.
+pub fn text_as_it_stands(tree: &Tree) -> String {
+    format!("{};", subtree(tree))
 }
 
 /// The children in the tree's order.

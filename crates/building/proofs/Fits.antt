@@ -1,5 +1,5 @@
 -- A tree that was built has its body in the room. Assumes nothing.
-use mathlib.Core.Bool.{Bool, false}
+use mathlib.Core.Bool.{Bool, false, true}
 use mathlib.Core.List.{List, [], _∷_, _++_}
 use mathlib.Core.Path.{_∙_, _≡_, ap, refl, sym}
 use Prim.Native.Nat.{ℕ, _≤_}
@@ -22,6 +22,7 @@ use Rattle.answers.specs.declared.Look.{Look}
 use Rattle.answers.specs.declared.Look.the-variants.{Pass, Refuse}
 use Rattle.building.specs.Builds.{buildAnswer, buildDone, countedDone, countedRefused, inputLooks, lookOutcome, lookedBy, nodesIn, outcome, outcomeBy}
 use Rattle.building.specs.GoodSet.{GoodSet}
+use Rattle.building.specs.Vetoes.{vetoAnswer, vetoLooked}
 use Rattle.building.specs.declared.Answer.the-variants.{Done}
 use Rattle.answers.specs.declared.Written.{Written}
 use Rattle.building.proofs.Chosen.{input-good, set-below, set-small}
@@ -55,3 +56,7 @@ answer-fits v c n s t l later w e =
 -- of the plain build
 pub done-fits : (n s : ℕ) (t : List ℕ) (l : ℕ) (w : Written) → buildAnswer n s t l .answer ≡ Done w → bodyLength (w .nodes) ≤ l
 done-fits n s t l = answer-fits false (lookedBy false n s t) n s t l (lookOutcome (outcome n s t) ∷ [])
+
+-- and of the veto build
+pub veto-fits : (n s : ℕ) (t : List ℕ) (l : ℕ) (w : Written) → vetoAnswer n s t l .answer ≡ Done w → bodyLength (w .nodes) ≤ l
+veto-fits n s t l = answer-fits true (vetoLooked n s t) n s t l []

@@ -28,7 +28,7 @@ use Rattle.children.specs.Children.{ChildWith, FindsChild}
 
 -- ---- each tree among the children in house order is the house order of a child
 
-abbrev KidOf : Nodes → ℕ → Tree → Type 0
+abbrev pub KidOf : Nodes → ℕ → Tree → Type 0
 KidOf v i u = (c : ℕ) × Child v i c × (u ≡ house (subtree v c))
 
 hang-every : (Q : Tree → Type 0) (t : Tree) (f : Forest) → Q t → EveryF Q f → EveryF Q (hang t f)
@@ -39,7 +39,7 @@ hang-every Q t (cons u f) q h = by-low t u f (EveryF Q) (λ l. (q, h)) (λ l. (h
 abbrev pub housed : Nodes → List ℕ → Forest
 housed v l = houseF (forestOf (subtree v) l)
 
-every-kid : (v : Nodes) (i : ℕ) (l : List ℕ) → ((c : ℕ) → List·Memᴰ c l → Child v i c) → EveryF (KidOf v i) (housed v l)
+pub every-kid : (v : Nodes) (i : ℕ) (l : List ℕ) → ((c : ℕ) → List·Memᴰ c l → Child v i c) → EveryF (KidOf v i) (housed v l)
 every-kid v i [] h = tt
 every-kid v i (c ∷ l) h = hang-every (KidOf v i) (house (subtree v c)) (housed v l) (c, h c (List·Memᴰ·head refl), refl)
     (every-kid v i l (λ d m. h d (List·Memᴰ·tail m)))

@@ -14,7 +14,7 @@ ghost use Rattle.loosening.specs.Loosens.{Loosens, eased, laidOut, lent,
 ghost use Rattle.loosening.specs.Without.{Without, newParent, oldNumber};
 
 // The most sets that are dropped: a tree of 64 species has no more groups of two species or more, the root's aside.
-const MOST_DROPPED: usize = 62;
+pub const MOST_DROPPED: usize = 62;
 
 // How many nodes the final tree has, and how many sets were dropped.
 pub struct Tally {

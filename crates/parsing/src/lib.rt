@@ -33,13 +33,15 @@ enum Got {
     Bad(usize),
 }
 
-fn blank(b: u8) -> bool
+// Is b a space, or byte 10 or 13?
+pub fn blank(b: u8) -> bool
     ensures { λ r. ⌜ r ≡ blank b ⌝ }
 {
     b == b' ' || b == 10 || b == 13
 }
 
-fn digit(b: u8) -> bool
+// Is b a digit?
+pub fn digit(b: u8) -> bool
     ensures { λ r. ⌜ r ≡ digit b ⌝ }
 {
     b'0' <= b && b <= b'9'

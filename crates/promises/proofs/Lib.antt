@@ -25,6 +25,7 @@ pub mod AsCheck
 pub mod Fewer
 pub mod Drops
 pub mod Loosened
+pub mod Sent
 pub mod Finest
 pub mod Paper
 pub mod UselessLooseners

@@ -10,6 +10,7 @@ pub mod Together
 pub mod Counting
 pub mod Veto
 pub mod Loosening
+pub mod Sent
 pub mod Finest
 pub mod Paper
 pub mod Fans

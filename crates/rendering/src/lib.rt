@@ -10,7 +10,7 @@ ghost use Rattle.rendering.specs.Texts.{subtreeText};
 ghost use Rattle.rendering.specs.Renders.{Renders};
 
 // The longest text.
-const LONGEST: usize = 308;
+pub const LONGEST: usize = 308;
 
 // How many bytes were written to the front of the room.
 pub struct Text {

@@ -40,6 +40,10 @@ pub mod Loosened
 pub mod LooseTheorems
 pub mod LooseRuns
 pub mod Finest
+pub mod Cut
+pub mod CutGroups
+pub mod CutRule
+pub mod CutRuns
 pub mod Induced
 pub mod Words
 pub mod Combinations

@@ -9,5 +9,6 @@ pub mod Held
 pub mod Check
 pub mod Induced
 pub mod Loosen
+pub mod Cut
 pub mod Combinations
 pub mod Visits

@@ -1,0 +1,8 @@
+-- The line of a text that is refused: definitions only. What is proved of them stands in `proofs/`.
+pub mod Words
+pub mod Causes
+pub mod LineColumns
+pub mod NodePlaces
+pub mod Expected
+pub mod Refused
+pub mod Stands

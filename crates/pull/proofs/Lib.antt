@@ -1,0 +1,2 @@
+-- How many bytes are looked at.
+pub mod Looked

@@ -1,0 +1,2 @@
+-- What `pull` hands on: definitions only.
+pub mod Runs
