@@ -6,13 +6,13 @@ use mathlib.Core.Logic.{_↔_, _≢_}
 use mathlib.Core.Path.{_∙_, _≡_, ap, refl, subst, sym}
 use Prim.Native.Nat.{ℕ}
 use native.Mathlib.Omega.{arith}
-use Rattle.answers.specs.Answers.{Told, Value, told}
+use Rattle.refusals.proofs.Numbers.{number-some}
+use Rattle.refusals.specs.Told.{Told, Value, told}
 use Rattle.answers.specs.Looks.{Settled, after, andThen, answered, firstRefusal, lookTold, refuseIf}
-use Rattle.answers.specs.Refusals.{refusalTold}
+use Rattle.refusals.specs.Refusals.{refusalTold}
 use Rattle.answers.specs.declared.Look.{Look}
 use Rattle.answers.specs.declared.Look.the-variants.{Pass, Refuse}
-use Rattle.answers.specs.declared.Refusal.{Refusal}
-use Rattle.answers.specs.declared.Refusal.the-variants.{BadByte, BadCounts, BadLength, BadRecord, BadSet, BadTable, BadText, BadTree, BadVersion, Contradicted, EndsEarly, LeftOver, NoTree, Outside, ShortRoom, Unforced}
+use Rattle.refusals.specs.declared.Refusal.{Refusal}
 
 -- At most one answer, and one content of what is lent, meet the contract of an operation.
 pub at-most-one : {A W B : Type 0} {done : W → A} {refused : Refusal → A} {l : List Look} {w : W} {m o : B} {r r′ : A} {p p′ : B} → Settled done refused l w m o r p → Settled done refused l w m o r′ p′
@@ -82,24 +82,6 @@ pub is-rest : {A W B : Type 0} {done : W → A} {refused : Refusal → A} (l : L
 is-rest l {m} e s = let q = first-on l m e in record { is = rw q (s .is); holds = rw q (s .holds) }
 
 -- ---- what is told of it
-
-number-some : (x : Refusal) → refusalTold x .number ≢ 0
-number-some BadVersion e = omega arith
-number-some BadCounts e = omega arith
-number-some (EndsEarly k) e = omega arith
-number-some (LeftOver m) e = omega arith
-number-some (BadLength k) e = omega arith
-number-some (BadTree x) e = omega arith
-number-some BadTable e = omega arith
-number-some (BadByte i) e = omega arith
-number-some ShortRoom e = omega arith
-number-some (NoTree u) e = omega arith
-number-some (Contradicted x) e = omega arith
-number-some (Unforced i) e = omega arith
-number-some (BadRecord i) e = omega arith
-number-some (BadText p) e = omega arith
-number-some BadSet e = omega arith
-number-some (Outside i) e = omega arith
 
 zero-pass : (k : Look) (vs : List Value) → lookTold k vs .number ≡ 0 → k ≡ Pass
 zero-pass Pass vs e = refl

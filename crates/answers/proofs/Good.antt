@@ -10,9 +10,9 @@ use lib.ListN.{length}
 use Rattle.sets.proofs.Bools.{or-none}
 use Rattle.tables.proofs.Limits.{small-exactly}
 use Rattle.tables.specs.Bytes.{wrongByte, wrongLength}
-use Rattle.tables.specs.Index.{C}
-use Rattle.bodies.proofs.Rules.{no-fault}
-use Rattle.bodies.specs.Faults.{fault}
+use Rattle.triples.specs.Index.{C}
+use Rattle.rules.proofs.Rules.{no-fault}
+use Rattle.rules.specs.Faults.{fault}
 use Rattle.bodies.specs.Nodes.{Good, badLength, nodes}
 use Rattle.bodies.specs.declared.Verdict.{Verdict}
 use Rattle.bodies.specs.declared.Verdict.the-variants.{Breaks, Fine}

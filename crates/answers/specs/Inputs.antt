@@ -5,7 +5,7 @@ use mathlib.Core.Path.{_≡_}
 use Prim.Native.Nat.{ℕ, _<_, _≤_}
 use lib.ListN.{getD, length}
 use Rattle.tables.specs.Bytes.{Small}
-use Rattle.tables.specs.Index.{C}
+use Rattle.triples.specs.Index.{C}
 use Rattle.bodies.specs.Nodes.{Good, badLength, nodes}
 
 -- n species: "A run has n species, 1 to 64"

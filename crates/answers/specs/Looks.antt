@@ -5,16 +5,16 @@ use mathlib.Core.Path.{_≡_}
 use Prim.Native.Nat.{ℕ}
 use lib.Dec.{eqb, ltb}
 use Rattle.tables.specs.Bytes.{over, wrongByte, wrongLength}
-use Rattle.bodies.specs.Faults.{fault}
+use Rattle.rules.specs.Faults.{fault}
 use Rattle.bodies.specs.Nodes.{badLength, nodes}
 use Rattle.bodies.specs.declared.Verdict.{Verdict}
 use Rattle.bodies.specs.declared.Verdict.the-variants.{Breaks, Fine}
-use Rattle.answers.specs.Answers.{Told, Value, told}
-use Rattle.answers.specs.Refusals.{refusalTold}
+use Rattle.refusals.specs.Told.{Told, Value, told}
+use Rattle.refusals.specs.Refusals.{refusalTold}
 use Rattle.answers.specs.declared.Look.{Look}
 use Rattle.answers.specs.declared.Look.the-variants.{Pass, Refuse}
-use Rattle.answers.specs.declared.Refusal.{Refusal}
-use Rattle.answers.specs.declared.Refusal.the-variants.{BadByte, BadCounts, BadLength, BadTable, BadTree, ShortRoom}
+use Rattle.refusals.specs.declared.Refusal.{Refusal}
+use Rattle.refusals.specs.declared.Refusal.the-variants.{BadByte, BadCounts, BadLength, BadTable, BadTree, ShortRoom}
 
 -- refused where the condition holds
 abbrev pub refuseIf : Bool → Refusal → Look

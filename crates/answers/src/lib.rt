@@ -1,4 +1,5 @@
-// The refusals of document 01's table, and the looks at what is handed in that several operations share.
+// The looks at what is handed in that several operations share.
+use refusals::Refusal;
 ghost use mathlib.Core.Path.{_≡_};
 ghost use mathlib.Core.List.{[], _∷_};
 ghost use lib.ListN.{length};
@@ -7,31 +8,6 @@ ghost use Rattle.answers.specs.Looks.{firstRefusal, andThen, wrongCount,
 // What was written to the front of a room: "order and build: node count".
 pub struct Written {
     pub nodes: usize,
-}
-
-// Where an entered triplet differs from the tree: the triple's index, and its byte in the table.
-pub struct Contradiction {
-    pub index: usize,
-    pub byte: u8,
-}
-
-pub enum Refusal {
-    BadVersion,
-    BadCounts,
-    EndsEarly(usize),
-    LeftOver(usize),
-    BadLength(usize),
-    BadTree(bodies::Broken),
-    BadTable,
-    BadByte(usize),
-    ShortRoom,
-    NoTree(u64),
-    Contradicted(Contradiction),
-    Unforced(usize),
-    BadRecord(usize),
-    BadText(usize),
-    BadSet,
-    Outside(usize),
 }
 
 // A look at what is handed in.
@@ -91,7 +67,7 @@ pub fn look_body(k: usize, n: usize, body: &[u8]) -> Look
     if bodies::bad_length(body.len()) {
         return Look::Refuse(Refusal::BadLength(k));
     }
-    let v = bodies::first_fault(k, n, body);
+    let v = rules::first_fault(k, n, body);
     match v {
         bodies::Verdict::Fine => Look::Pass,
         bodies::Verdict::Breaks(x) => Look::Refuse(Refusal::BadTree(x)),

@@ -15,7 +15,7 @@ use Rattle.sets.proofs.Tests.{has-below}
 use Rattle.trees.specs.Trees.{Tree, Forest, leaf, node, nil, cons, under, leaves, leavesF, degree, wellFormed}
 use Rattle.trees.proofs.Formed.{Formed, FormedF, formed-e}
 use Rattle.trees.proofs.Sizes.{size-under}
-use Rattle.bodies.specs.Nodes.{nodes, width, mostNodes, bodyLength, longest, badLength, roomFor, Good}
+use Rattle.bodies.specs.Nodes.{nodes, width, mostNodes, bodyLength, longest, badLength, roomFor, Good, innerBytes, leafBytes}
 use Rattle.bodies.specs.Draws.{treeOf, nodeCount, nodeCountF, bytes, bytesF, bodyOf}
 use Rattle.bodies.proofs.Laid.{good-back, Lays, LaysF, count-pos, laid-good, laid-back}
 
@@ -43,12 +43,12 @@ byte-0 b p r at e = let z : width * at + 0 ≡ width * at = omega arith in rw z 
 
 mutual
   lays-bytes : (b rest : List ℕ) (t : Tree) (p at : ℕ) → drop (width * at) b ≡ bytes t p at ++ rest → Lays (nodes b) t p at
-  lays-bytes b rest (leaf x) p at e = (byte-0 b p (x ∷ rest) at e, byte b (p ∷ x ∷ rest) (width * at) 1 e)
+  lays-bytes b rest (leaf x) p at e = (byte-0 b p (x ∷ rest) at e, byte b (leafBytes p x ++ rest) (width * at) 1 e)
   lays-bytes b rest (node f) p at e =
       let s : width * suc at ≡ width * at + width = omega arith in (
         byte-0 b p _ at e,
-        byte b (p ∷ 255 ∷ bytesF f at (suc at) ++ rest) (width * at) 1 e,
-        lays-bytesF b rest f at (suc at) (ap (λ (z : ℕ). drop z b) s ∙ onward b (p ∷ 255 ∷ []) (bytesF f at (suc at) ++ rest) (width * at) width e refl),
+        byte b (innerBytes p ++ bytesF f at (suc at) ++ rest) (width * at) 1 e,
+        lays-bytesF b rest f at (suc at) (ap (λ (z : ℕ). drop z b) s ∙ onward b (innerBytes p) (bytesF f at (suc at) ++ rest) (width * at) width e refl),
       )
 
   lays-bytesF : (b rest : List ℕ) (f : Forest) (p at : ℕ) → drop (width * at) b ≡ bytesF f p at ++ rest → LaysF (nodes b) f p at

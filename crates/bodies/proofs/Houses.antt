@@ -14,7 +14,7 @@ use Rattle.bodies.proofs.Back.{body-back, body-badLength, body-good, bo
 use Rattle.bodies.proofs.Counts.{all-nodes}
 use Rattle.bodies.proofs.Drawn.{tree-below, tree-formed}
 use Rattle.bodies.proofs.Housed.{house-count}
-use Rattle.bodies.proofs.Rules.{length-good}
+use Rattle.bodies.proofs.Good.{length-good}
 use Rattle.bodies.specs.Draws.{bodyOf, nodeCount, ordered, treeOf}
 use Rattle.bodies.specs.Nodes.{Good, badLength, nodes}
 

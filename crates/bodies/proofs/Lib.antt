@@ -1,5 +1,5 @@
 -- The laws of a tree's body: its rules, how the subtrees of its nodes lie, and from good nodes to their tree and back.
-pub mod Rules
+pub mod Good
 pub mod Under
 pub mod Drawn
 pub mod NodeGroups

@@ -8,7 +8,7 @@ use lib.Seq.{sets}
 use Rattle.trees.specs.Trees.{Forest, Tree, cons, node}
 use Rattle.bodies.proofs.Back.{bytes-length}
 use Rattle.bodies.specs.Draws.{bytes, bytesF, nodeCount}
-use Rattle.bodies.specs.Nodes.{width}
+use Rattle.bodies.specs.Nodes.{innerBytes, width}
 
 pub sets-append : (o : List ℕ) (i : ℕ) (a b : List ℕ) → sets o i (a ++ b) ≡ sets (sets o i a) (i + length a) b
 sets-append o i [] b = let z : i + 0 ≡ i = omega arith in rw z refl
@@ -18,8 +18,10 @@ sets-append o i (x ∷ a) b =
 
 -- a node, then what hangs from it
 pub node-stores : (o : List ℕ) (f : Forest) (p at : ℕ)
-    → sets (sets o (width * at) (p ∷ 255 ∷ [])) (width * suc at) (bytesF f at (suc at)) ≡ sets o (width * at) (bytes (node f) p at)
-node-stores o f p at = let z : width * suc at ≡ suc (suc (width * at)) = omega arith in rw z refl
+    → sets (sets o (width * at) (innerBytes p)) (width * suc at) (bytesF f at (suc at)) ≡ sets o (width * at) (bytes (node f) p at)
+node-stores o f p at =
+    let z : width * suc at ≡ width * at + length (innerBytes p) = omega arith in
+    rw z (sym (sets-append o (width * at) (innerBytes p) (bytesF f at (suc at))))
 
 -- a tree, then those beside it
 pub forest-stores : (o : List ℕ) (t : Tree) (f : Forest) (p at : ℕ)

@@ -3,7 +3,7 @@ use mathlib.Core.List.{List, [], _∷_, _++_}
 use Prim.Native.Nat.{ℕ, zero, suc, _+_}
 use lib.Seq.{sets}
 use Rattle.trees.specs.Trees.{Tree, Forest, leaf, node, nil, cons, house}
-use Rattle.bodies.specs.Nodes.{Nodes, nodes, children, none}
+use Rattle.bodies.specs.Nodes.{Nodes, nodes, children, none, leafBytes, innerBytes}
 
 -- the trees at some nodes, side by side
 abbrev pub forestOf : (ℕ → Tree) → List ℕ → Forest
@@ -41,8 +41,8 @@ abbrev mutual
 -- the bytes of a tree in preorder: its own node has the number at, and the parent p
 abbrev mutual
   pub bytes : Tree → ℕ → ℕ → List ℕ
-  bytes (leaf x) p at = p ∷ x ∷ []
-  bytes (node f) p at = p ∷ none ∷ bytesF f at (suc at)
+  bytes (leaf x) p at = leafBytes p x
+  bytes (node f) p at = innerBytes p ++ bytesF f at (suc at)
 
   pub bytesF : Forest → ℕ → ℕ → List ℕ
   bytesF nil p at = []

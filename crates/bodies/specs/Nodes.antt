@@ -1,11 +1,12 @@
 -- The nodes of a body and the tree rules. Document 01, "A tree's body and the collection".
 use mathlib.Core.Path.{_≡_}
 use mathlib.Core.Bool.{Bool, _||_, not}
-use mathlib.Core.List.{List}
+use mathlib.Core.List.{List, [], _∷_}
 use Prim.Native.Nat.{ℕ, _+_, _-_, _*_, _/_, _%_, _≤_, _<_}
 use lib.Dec.{eqb, ltb}
 use lib.ListN.{length, getD}
 use Rattle.sets.specs.Species.{from}
+use Rattle.bodies.specs.declared.Node.{Node}
 
 -- nodes by their numbers: how many, and of each its parent and its species
 pub record Nodes : Type 0 where
@@ -23,6 +24,10 @@ width = 2
 
 abbrev pub nodes : List ℕ → Nodes
 nodes b = nodesOf width b
+
+-- one of them
+abbrev pub nodeAt : Nodes → ℕ → Node
+nodeAt v i = record { parent = v .parent i; species = v .species i }
 
 -- at most two nodes a species, less one, and at most 64 species: 127 nodes
 abbrev pub mostNodes : ℕ
@@ -43,6 +48,20 @@ badLength l = eqb l 0 || (not (eqb (l % width) 0) || ltb longest l)
 -- the root's parent, and the species of a node with children
 abbrev pub none : ℕ
 none = 255
+
+-- the one definition that spells the bytes of a node, in the order that `nodesOf` reads them
+abbrev pub nodeBytes : ℕ → ℕ → List ℕ
+nodeBytes p s = p ∷ s ∷ []
+
+-- under the parent p: a leaf with the species x, a node with children, and the node v, whatever its own parent
+abbrev pub leafBytes : ℕ → ℕ → List ℕ
+leafBytes p x = nodeBytes p x
+
+abbrev pub innerBytes : ℕ → List ℕ
+innerBytes p = nodeBytes p none
+
+abbrev pub underBytes : ℕ → Node → List ℕ
+underBytes p v = nodeBytes p (v .species)
 
 -- the room that the body of any tree of s species fits into: 4s - 2 bytes
 abbrev pub roomFor : ℕ → ℕ

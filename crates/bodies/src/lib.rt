@@ -1,11 +1,9 @@
-// The bytes of a tree's body: its nodes, the tree rules and their faults, and writing nodes.
+// The bytes of a tree's body: its nodes, what a broken rule is told as, and writing nodes.
 ghost use mathlib.Core.Path.{_≡_};
-ghost use mathlib.Core.List.{[], _∷_};
 ghost use Prim.Native.Nat.{suc, _*_, _<_, _≤_};
 ghost use lib.ListN.{length, take};
 ghost use lib.Seq.{sets};
-ghost use Rattle.bodies.specs.Nodes.{nodes, width, mostNodes, bodyLength, badLength, roomFor, children};
-ghost use Rattle.bodies.specs.Faults.{rightParent, rightSpecies, earlier, parentFault, nodeFault, fault};
+ghost use Rattle.bodies.specs.Nodes.{nodes, nodeAt, width, mostNodes, bodyLength, badLength, roomFor, leafBytes, innerBytes, underBytes};
 ghost use Rattle.bodies.specs.Draws.{written};
 
 // The bytes of a node: its parent, then its species.
@@ -18,6 +16,12 @@ pub const LONGEST: usize = WIDTH * MOST_NODES;
 
 // The root's parent, and the species of a node with children.
 pub const NONE: u8 = 255;
+
+// A node of a body, wherever its bytes stand.
+pub struct Node {
+    pub parent: u8,
+    pub species: u8,
+}
 
 // The rule that a node breaks, with what document 01 returns of it.
 pub enum Fault {
@@ -89,139 +93,44 @@ pub fn species(body: &[u8], i: usize) -> u8
     body[WIDTH * i + 1]
 }
 
-// How many children node i has.
-fn kids(body: &[u8], i: usize) -> usize
-    ensures { λ r. ⌜ r ≡ length (children (nodes (now (body .entry))) i) ⌝ }
-{
-    let count = node_count(body);
-    let mut k = 0;
-    let mut j = 1;
-    while j < count {
-        if wide(parent(body, j)) == i {
-            k += 1;
-        }
-        j += 1;
-    }
-    k
-}
-
-// The first leaf before node i with species s, where node i has no children (m is 0); i where there is none.
-fn earlier(body: &[u8], s: u8, m: usize, i: usize) -> usize
+// Node i, with all that is said of it.
+pub fn node_at(body: &[u8], i: usize) -> Node
     requires { ⌜ i < nodes (now body) .count ⌝ }
-    ensures { λ r. ⌜ r ≡ earlier (nodes (now (body .entry))) s m i ⌝ }
+    ensures { λ r. ⌜ r ≡ nodeAt (nodes (now (body .entry))) i ⌝ }
 {
-    if m != 0 {
-        return i;
+    Node {
+        parent: body[WIDTH * i],
+        species: body[WIDTH * i + 1],
     }
-    let mut j = 0;
-    while j < i {
-        if species(body, j) == s && kids(body, j) == 0 {
-            return j;
-        }
-        j += 1;
-    }
-    i
 }
 
-// Is node i's parent right?
-fn right_parent(body: &[u8], i: usize) -> bool
-    requires { ⌜ i < nodes (now body) .count ⌝ }
-    ensures { λ r. ⌜ r ≡ rightParent (nodes (now (body .entry))) i ⌝ }
-{
-    let p = parent(body, i);
-    if i == 0 { p == NONE } else { wide(p) < i }
-}
-
-fn parent_fault(k: usize, body: &[u8], i: usize) -> Verdict
-    requires { ⌜ i < nodes (now body) .count ⌝ }
-    ensures { λ r. ⌜ r ≡ parentFault k (nodes (now (body .entry))) i ⌝ }
-{
-    if right_parent(body, i) {
-        return Verdict::Fine;
-    }
-    Verdict::Breaks(Broken {
-        tree: k,
-        node: i,
-        fault: Fault::BadParent(parent(body, i)),
-    })
-}
-
-// Is s right as the species of a node with m children?
-fn right_species(n: usize, s: u8, m: usize) -> bool
-    ensures { λ r. ⌜ r ≡ rightSpecies n s m ⌝ }
-{
-    if m == 0 { wide(s) < n } else { s == NONE }
-}
-
-// The rules of node i but for its parent's, in their order.
-fn node_fault(k: usize, n: usize, body: &[u8], i: usize) -> Verdict
-    requires { ⌜ i < nodes (now body) .count ⌝ }
-    ensures { λ r. ⌜ r ≡ nodeFault k (nodes (now (body .entry))) n i ⌝ }
-{
-    let s = species(body, i);
-    let m = kids(body, i);
-    if !right_species(n, s, m) {
-        return Verdict::Breaks(Broken {
-            tree: k,
-            node: i,
-            fault: Fault::BadSpecies(s),
-        });
-    }
-    let j = earlier(body, s, m, i);
-    if j < i {
-        return Verdict::Breaks(Broken {
-            tree: k,
-            node: i,
-            fault: Fault::SeenBefore(j),
-        });
-    }
-    if m == 1 {
-        return Verdict::Breaks(Broken {
-            tree: k,
-            node: i,
-            fault: Fault::OnlyChild,
-        });
-    }
-    Verdict::Fine
-}
-
-// The first rule that the nodes of tree k break, with n species: the parents of all nodes first, then node by node.
-pub fn first_fault(k: usize, n: usize, body: &[u8]) -> Verdict
-    ensures { λ r. ⌜ r ≡ fault k (nodes (now (body .entry))) n ⌝ }
-{
-    let count = node_count(body);
-    let mut i = 0;
-    while i < count {
-        let f = parent_fault(k, body, i);
-        match f {
-            Verdict::Fine => {}
-            Verdict::Breaks(_) => {
-                return f;
-            }
-        }
-        i += 1;
-    }
-    let mut j = 0;
-    while j < count {
-        let f = node_fault(k, n, body, j);
-        match f {
-            Verdict::Fine => {}
-            Verdict::Breaks(_) => {
-                return f;
-            }
-        }
-        j += 1;
-    }
-    Verdict::Fine
-}
-
-// Writes node `at`.
-pub fn put_node(room: &mut [u8], at: usize, parent: u8, species: u8)
+// Writes node v as node `at`, under another parent: the one function that knows where the bytes of a node go.
+pub fn put_under(room: &mut [u8], at: usize, parent: u8, v: Node)
     requires { ⌜ bodyLength (suc at) ≤ length (now room) ⌝ }
-    ensures { λ _. ⌜ now (room .exit) ≡ sets (now (room .entry)) (width * at) (parent ∷ species ∷ []) ⌝ }
+    ensures { λ _. ⌜ now (room .exit) ≡ sets (now (room .entry)) (width * at) (underBytes parent v) ⌝ }
 {
     room[WIDTH * at] = parent;
-    room[WIDTH * at + 1] = species;
+    room[WIDTH * at + 1] = v.species;
+}
+
+// Writes node `at`, a leaf.
+pub fn put_leaf(room: &mut [u8], at: usize, parent: u8, species: u8)
+    requires { ⌜ bodyLength (suc at) ≤ length (now room) ⌝ }
+    ensures { λ _. ⌜ now (room .exit) ≡ sets (now (room .entry)) (width * at) (leafBytes parent species) ⌝ }
+{
+    put_under(room, at, parent, Node { parent, species });
+}
+
+// Writes node `at`, which has children.
+pub fn put_inner(room: &mut [u8], at: usize, parent: u8)
+    requires { ⌜ bodyLength (suc at) ≤ length (now room) ⌝ }
+    ensures { λ _. ⌜ now (room .exit) ≡ sets (now (room .entry)) (width * at) (innerBytes parent) ⌝ }
+{
+    let v = Node {
+        parent,
+        species: NONE,
+    };
+    put_under(room, at, parent, v);
 }
 
 // Lays the first k nodes of a body over the front of room.

@@ -6,6 +6,7 @@ use Prim.Native.Nat.{ℕ, _≤_}
 use native.Mathlib.Omega.{arith}
 use Rattle.sets.proofs.Least.{some-member}
 use Rattle.sets.proofs.Tests.{true-has}
+use Rattle.sets.proofs.Sizes.{not-empty}
 use Rattle.sets.specs.Sets.{has, size}
 use Rattle.trees.proofs.Built.{built}
 use Rattle.trees.proofs.Formed.{formed-i}
@@ -20,13 +21,12 @@ use Rattle.answers.proofs.Answered.{first-append, then-pass}
 use Rattle.answers.specs.Looks.{answered, firstRefusal}
 use Rattle.answers.specs.declared.Look.{Look}
 use Rattle.answers.specs.declared.Look.the-variants.{Pass, Refuse}
-use Rattle.building.specs.Builds.{buildAnswer, buildDone, countedDone, countedRefused, inputLooks, lookOutcome, lookedBy, nodesIn, outcome, outcomeBy}
-use Rattle.building.specs.GoodSet.{GoodSet}
+use Rattle.admitting.specs.GoodSet.{GoodSet, inputLooks}
+use Rattle.building.specs.Builds.{buildAnswer, buildDone, countedDone, countedRefused, lookOutcome, lookedBy, nodesIn, outcome, outcomeBy}
 use Rattle.building.specs.Vetoes.{vetoAnswer, vetoLooked}
 use Rattle.building.specs.declared.Answer.the-variants.{Done}
 use Rattle.answers.specs.declared.Written.{Written}
-use Rattle.building.proofs.Chosen.{input-good, set-below, set-small}
-use Rattle.growing.proofs.Numbered.{not-empty}
+use Rattle.admitting.proofs.Chosen.{input-good, set-below, set-small}
 
 done-pass : (c : ℕ) (k : Look) (w v : Written) → answered (countedDone c) (countedRefused c) k v .answer ≡ Done w → (k ≡ Pass) × (w ≡ v)
 done-pass c Pass w v e = let z : v ≡ w = cc in (refl, sym z)

@@ -9,6 +9,7 @@ use lib.ListN.{length, take}
 use Rattle.sets.proofs.Least.{some-member}
 use Rattle.sets.proofs.Members.{all-below}
 use Rattle.sets.proofs.Tests.{true-has}
+use Rattle.sets.proofs.Sizes.{not-empty}
 use Rattle.sets.specs.Sets.{Has, has}
 use Rattle.sets.specs.Species.{Below, Inside, below}
 use Rattle.trees.proofs.Built.{Built, built}
@@ -31,12 +32,11 @@ use Rattle.answers.specs.Looks.{after, answered, firstRefusal, lookBytes, lookC
 use Rattle.answers.specs.declared.Look.{Look}
 use Rattle.answers.specs.declared.Look.the-variants.{Pass, Refuse}
 use Rattle.answers.specs.declared.Written.{Written}
-use Rattle.building.specs.Builds.{buildAfter, buildAnswer, buildDone, buildLooks, buildRoom, countedDone, countedRefused, inputLooks, lookOutcome, lookedBy, nodesIn, outcome, outcomeBy}
-use Rattle.building.specs.GoodSet.{GoodSet}
+use Rattle.admitting.specs.GoodSet.{GoodSet, inputLooks}
+use Rattle.building.specs.Builds.{buildAfter, buildAnswer, buildDone, buildLooks, buildRoom, countedDone, countedRefused, lookOutcome, lookedBy, nodesIn, outcome, outcomeBy}
 use Rattle.building.specs.Vetoes.{vetoAfter, vetoAnswer, vetoLooked, vetoed}
 use Rattle.building.specs.declared.Answer.the-variants.{Done}
-use Rattle.building.proofs.Chosen.{input-good, set-below, set-small}
-use Rattle.growing.proofs.Numbered.{not-empty}
+use Rattle.admitting.proofs.Chosen.{input-good, set-below, set-small}
 
 -- b is the body of a tree that was built from the table t of n species
 pub record BuiltBody (n : ℕ) (t b : List ℕ) : Type 0 where

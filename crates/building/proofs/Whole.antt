@@ -8,6 +8,7 @@ use lib.Dec.{ltb}
 use lib.ListN.{length, take}
 use Rattle.sets.proofs.Least.{some-member}
 use Rattle.sets.proofs.Tests.{number-has, true-has}
+use Rattle.sets.proofs.Sizes.{not-empty}
 use Rattle.sets.specs.Sets.{has, size}
 use Rattle.trees.proofs.Bound.{both-bound}
 use Rattle.trees.proofs.VetoTheorems.{veto-tree}
@@ -24,17 +25,16 @@ use Rattle.answers.proofs.Answered.{Each, first-among, first-stop, is-done, is-
 use Rattle.answers.specs.Looks.{Settled, firstRefusal, wrongCount}
 use Rattle.answers.specs.declared.Look.{Look}
 use Rattle.answers.specs.declared.Look.the-variants.{Pass, Refuse}
-use Rattle.answers.specs.declared.Refusal.{Refusal}
-use Rattle.answers.specs.declared.Refusal.the-variants.{BadByte, BadCounts, BadSet, BadTable, NoTree, Outside, ShortRoom}
-use Rattle.building.specs.Builds.{Builds, Raises, buildDone, buildRoom, countedDone, countedRefused, inputLooks, lookOutcome, lookedBy, outcome, outcomeBy}
-use Rattle.building.specs.GoodSet.{GoodSet, badSet, firstOutside}
+use Rattle.refusals.specs.declared.Refusal.{Refusal}
+use Rattle.refusals.specs.declared.Refusal.the-variants.{BadByte, BadCounts, BadSet, BadTable, NoTree, Outside, ShortRoom}
+use Rattle.admitting.specs.GoodSet.{GoodSet, badSet, firstOutside, inputLooks}
+use Rattle.building.specs.Builds.{Builds, Raises, buildDone, buildRoom, countedDone, countedRefused, lookOutcome, lookedBy, outcome, outcomeBy}
 use Rattle.growing.specs.Grows.{Stands}
 use Rattle.building.specs.Vetoes.{Vetoes, vetoLooked, vetoed}
 use Rattle.bodies.specs.Nodes.{bodyLength, none, roomFor}
 use Rattle.building.specs.declared.Answer.the-variants.{Done, Refused}
 use Rattle.building.specs.declared.Counted.{Counted}
-use Rattle.building.proofs.Chosen.{input-good, set-below}
-use Rattle.growing.proofs.Numbered.{not-empty}
+use Rattle.admitting.proofs.Chosen.{input-good, set-below}
 
 -- the tree was written to the front of a draft d, and from there to the room
 pub raise-done : (R : Outcome) (k m : ℕ) (d d′ o o′ : List ℕ) → Stands R k none 0 d d′ m → bodyLength m ≤ length d → bodyLength m ≤ length o → o′ ≡ written o (take (bodyLength m) d′)

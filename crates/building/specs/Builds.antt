@@ -4,21 +4,20 @@ use mathlib.Core.List.{List, [], _∷_, _++_}
 use Prim.Native.Nat.{ℕ}
 use lib.Dec.{eqb}
 use lib.ListN.{length}
-use Rattle.sets.specs.Sets.{has, number, size}
+use Rattle.sets.specs.Sets.{has, number}
 use Rattle.trees.specs.Build.{Outcome, tree, stop, buildBy}
 use Rattle.trees.specs.Visits.{looked}
 use Rattle.tables.specs.Bytes.{entered}
-use Rattle.bodies.specs.Nodes.{roomFor}
 use Rattle.bodies.specs.Draws.{nodeCount, bodyOf, written}
-use Rattle.answers.specs.Answers.{Told, looked-count, node-count, told, value}
-use Rattle.answers.specs.Looks.{Settled, after, answered, firstRefusal, lookBytes, lookCount, lookRoom, lookTable}
-use Rattle.answers.specs.Refusals.{refusalTold}
+use Rattle.refusals.specs.Told.{Told, looked-count, node-count, told, value}
+use Rattle.answers.specs.Looks.{Settled, after, answered, firstRefusal}
+use Rattle.refusals.specs.Refusals.{refusalTold}
 use Rattle.answers.specs.declared.Look.{Look}
 use Rattle.answers.specs.declared.Look.the-variants.{Pass, Refuse}
-use Rattle.answers.specs.declared.Refusal.{Refusal}
-use Rattle.answers.specs.declared.Refusal.the-variants.{NoTree}
+use Rattle.refusals.specs.declared.Refusal.{Refusal}
+use Rattle.refusals.specs.declared.Refusal.the-variants.{NoTree}
 use Rattle.answers.specs.declared.Written.{Written}
-use Rattle.building.specs.GoodSet.{lookOutside, lookSet}
+use Rattle.admitting.specs.GoodSet.{inputLooks}
 use Rattle.building.specs.declared.Answer.{Answer}
 use Rattle.building.specs.declared.Answer.the-variants.{Done, Refused}
 use Rattle.building.specs.declared.Counted.{Counted}
@@ -50,10 +49,6 @@ buildDone R = record { nodes = nodesIn R }
 
 abbrev pub buildRoom : Outcome → List ℕ → List ℕ
 buildRoom R o = written o (bodyIn R)
-
--- 2, 7, 8; "in the build after 8 and before 9: 15 [..]; 16"; then 9, "Room becomes 4s - 2 bytes for s species in the set": for the set s, the table t and a room of l bytes
-abbrev pub inputLooks : ℕ → ℕ → List ℕ → ℕ → List Look
-inputLooks n s t l = lookCount n ∷ lookTable n (length t) ∷ lookBytes t ∷ lookSet n s ∷ lookOutside n s t ∷ lookRoom (roomFor (size s)) l ∷ []
 
 -- "Build: 2, 7, 8, 9 (room under 4n - 2 bytes), 10", with 15 and 16 after 8
 abbrev pub buildLooks : ℕ → ℕ → List ℕ → ℕ → List Look
@@ -97,4 +92,4 @@ answerTold (Refused x) = refusalTold x
 
 -- and behind its values the number of triples looked at, whatever the answer is
 abbrev pub buildTold : Counted → Told
-buildTold r = told (answerTold (r .answer) .number) (answerTold (r .answer) .values ++ (value looked-count (r .looked) ∷ []))
+buildTold r = record { number = answerTold (r .answer) .number; values = answerTold (r .answer) .values ++ (value looked-count (r .looked) ∷ []); rule = answerTold (r .answer) .rule }

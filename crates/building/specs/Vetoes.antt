@@ -6,7 +6,8 @@ use Prim.Native.Nat.{ℕ}
 use lib.ListN.{length}
 use Rattle.trees.specs.Build.{Outcome}
 use Rattle.answers.specs.Looks.{Settled, after, answered, firstRefusal}
-use Rattle.building.specs.Builds.{buildDone, buildRoom, countedDone, countedRefused, inputLooks, lookedBy, outcomeBy}
+use Rattle.admitting.specs.GoodSet.{inputLooks}
+use Rattle.building.specs.Builds.{buildDone, buildRoom, countedDone, countedRefused, lookedBy, outcomeBy}
 use Rattle.building.specs.declared.Counted.{Counted}
 
 -- the veto build of the set s, of n species and the table t

@@ -1,5 +1,4 @@
 // Building the tree of a set of species that holds every entered triplet, or the set that shows why there is none; and the veto build, which always gives a tree.
-ghost use mathlib.Core.Path.{_≡_};
 ghost use mathlib.Core.List.{[]};
 ghost use Prim.Native.Nat.{_<_, _≤_};
 ghost use lib.ListN.{length};
@@ -8,14 +7,12 @@ ghost use Rattle.trees.specs.Build.{buildBy};
 ghost use Rattle.trees.specs.Visits.{looked};
 ghost use Rattle.tables.specs.Bytes.{entered};
 ghost use Rattle.bodies.specs.Nodes.{roomFor};
-ghost use Rattle.answers.specs.Looks.{firstRefusal};
-ghost use Rattle.building.specs.Builds.{inputLooks, Raises, Builds};
+ghost use Rattle.building.specs.Builds.{Raises, Builds};
 ghost use Rattle.building.specs.Vetoes.{Vetoes};
-ghost use Rattle.building.specs.GoodSet.{badSet};
 
 pub enum Answer {
     Done(answers::Written),
-    Refused(answers::Refusal),
+    Refused(refusals::Refusal),
 }
 
 // An answer, and beside it how many triples were looked at: 0 for every refusal but that of a set that stops.
@@ -41,56 +38,17 @@ fn raise(veto: bool, t: &[u8], s: u64, room: &mut [u8]) -> Counted
             }
         }
         growing::Branch::Stopped(u, c) => Counted {
-            answer: Answer::Refused(answers::Refusal::NoTree(u)),
+            answer: Answer::Refused(refusals::Refusal::NoTree(u)),
             looked: c,
         },
     }
-}
-
-// Is the set empty, or has it a species that is not below n?
-fn bad_set(n: usize, s: u64) -> bool
-    requires { ⌜ n ≤ 64 ⌝ }
-    ensures { λ r. ⌜ r ≡ badSet n s ⌝ }
-{
-    s == 0 || !sets::subset(s, sets::all(n))
-}
-
-// Looks at all that is handed in, for a room of l bytes.
-fn look_input(n: usize, set: u64, t: &[u8], l: usize) -> answers::Look
-    ensures { λ r. ⌜ r ≡ firstRefusal (inputLooks n set (now (t .entry)) l) ⌝ }
-{
-    let look = answers::look_table(n, t);
-    match look {
-        answers::Look::Pass => {}
-        answers::Look::Refuse(x) => {
-            return answers::Look::Refuse(x);
-        }
-    }
-    if bad_set(n, set) {
-        return answers::Look::Refuse(answers::Refusal::BadSet);
-    }
-    let found = outside::first_outside(n, t, set);
-    match found {
-        tables::Found::Nowhere => {}
-        tables::Found::At(x) => {
-            return answers::Look::Refuse(answers::Refusal::Outside(tables::index(
-                x.low,
-                x.mid,
-                x.high,
-            )));
-        }
-    }
-    if l < bodies::room(sets::size(set) as usize) {
-        return answers::Look::Refuse(answers::Refusal::ShortRoom);
-    }
-    answers::Look::Pass
 }
 
 // Builds the tree of a set of species, of a table of n species, to the front of the room. A refusal leaves every byte as it was.
 pub fn build(n: usize, set: u64, t: &[u8], room: &mut [u8]) -> Counted
     ensures { λ r. ⌜ Builds n set (now (t .entry)) (now (room .entry)) r (now (room .exit)) ⌝ }
 {
-    let look = look_input(n, set, t, room.len());
+    let look = admitting::look_input(n, set, t, room.len());
     match look {
         answers::Look::Pass => raise(false, t, set, room),
         answers::Look::Refuse(x) => Counted {
@@ -104,7 +62,7 @@ pub fn build(n: usize, set: u64, t: &[u8], room: &mut [u8]) -> Counted
 pub fn veto(n: usize, set: u64, t: &[u8], room: &mut [u8]) -> Counted
     ensures { λ r. ⌜ Vetoes n set (now (t .entry)) (now (room .entry)) r (now (room .exit)) ⌝ }
 {
-    let look = look_input(n, set, t, room.len());
+    let look = admitting::look_input(n, set, t, room.len());
     match look {
         answers::Look::Pass => raise(true, t, set, room),
         answers::Look::Refuse(x) => Counted {

@@ -4,8 +4,9 @@ use mathlib.Core.Path.{_∙_, _≡_, ap, ap₂, refl, subst, sym}
 use Prim.Native.Nat.{ℕ, zero, suc, _*_, _<_}
 use lib.ListN.{drop, getD, length, take}
 use lib.Seq.{drop-at, take-at}
-use Rattle.calls.specs.Calls.{CallBytes, FieldBytes, FieldsBytes, HeadBytes, ItemBytes, NumberBytes, Then, itemSizes, shape}
-use Rattle.calls.specs.Numbers.{eightAt, fourAt}
+use Rattle.calls.specs.Calls.{CallBytes, FieldBytes, FieldsBytes, HeadBytes, ItemBytes, NumberBytes, Then}
+use Rattle.shapes.specs.Shapes.{itemSizes, shape}
+use Rattle.shapes.specs.Numbers.{eightAt, fourAt}
 
 -- two fronts of one list that are equally long are the same
 split : (p q u v : List ℕ) → length p ≡ length q → p ++ u ≡ q ++ v → (p ≡ q) × (u ≡ v)

@@ -1,5 +1,3 @@
--- Laws of reading, and of how a call is written.
-mod Reading
-mod Shapes
+-- Laws of how a call is written.
 mod Written
 pub mod Apart

@@ -6,12 +6,13 @@ use Prim.Native.Nat.{ℕ, zero, suc, _+_, _*_, _<_, _≤_}
 use native.Mathlib.Omega.{arith}
 use lib.ListN.{getD, length, take}
 use lib.Seq.{getD-take, length-take-le, take-all}
-use Rattle.calls.proofs.Reading.{some-both, some-none, some-took, took-both}
-use Rattle.calls.specs.Calls.{CallBytes, CountBytes, FieldBytes, FieldsBytes, HeadBytes, NumberBytes, Then, itemSizes, shape}
-use Rattle.calls.specs.Inputs.{InBuffer, Took, TookSome}
-use Rattle.calls.specs.Numbers.{eightAt, fourAt}
-use Rattle.calls.specs.declared.Shape.{Shape}
-use Rattle.calls.specs.declared.input.Input.{Input}
+use Rattle.input.proofs.Reading.{some-both, some-none, some-took, took-both}
+use Rattle.calls.specs.Calls.{CallBytes, CountBytes, FieldBytes, FieldsBytes, HeadBytes, NumberBytes, Then}
+use Rattle.shapes.specs.Shapes.{itemSizes, shape}
+use Rattle.input.specs.Inputs.{InBuffer, Took, TookSome}
+use Rattle.shapes.specs.Numbers.{eightAt, fourAt}
+use Rattle.shapes.specs.declared.Shape.{Shape}
+use Rattle.input.specs.declared.Input.{Input}
 
 -- the bytes of a number stand in the front of a list as they stand in the list
 eight-front : (n i : ℕ) (b : List ℕ) → i + 8 ≤ n → eightAt (take n b) i ≡ eightAt b i

@@ -1,25 +1,14 @@
 // How a call is written: its byte, then its numbers, then its fields.
 use input::Input;
+use shapes::Shape;
+use shapes::eight;
 ghost use mathlib.Core.Path.{_≡_};
 ghost use mathlib.Core.Bool.{true};
-ghost use Prim.Native.Nat.{_+_, _<_, _≤_, _^_};
+ghost use Prim.Native.Nat.{_≤_};
 ghost use lib.ListN.{length, take};
-ghost use Rattle.calls.specs.Inputs.{InBuffer, TookSome};
-ghost use Rattle.calls.specs.Numbers.{fourAt, eightAt};
-ghost use Rattle.calls.specs.Calls.{CountBytes, FieldBytes, HeadBytes, NumberBytes, ReadCall, fieldsOf, row, shape};
-
-pub mod input;
-
-// What follows the byte of a call: how many numbers, and how many bytes an item of each field has; 0 where the call has no such field. An item is a
-// byte, a record or a set.
-struct Shape {
-    known: bool,
-    numbers: usize,
-    first: usize,
-    second: usize,
-    third: usize,
-    fourth: usize,
-}
+ghost use Rattle.input.specs.Inputs.{InBuffer, TookSome};
+ghost use Rattle.shapes.specs.Shapes.{shape};
+ghost use Rattle.calls.specs.Calls.{CountBytes, FieldBytes, HeadBytes, NumberBytes, ReadCall, fieldsOf};
 
 // Three numbers, the first of which were read.
 struct Numbers {
@@ -54,68 +43,6 @@ pub struct Call {
     pub left: Input,
 }
 
-// The shape of a call that there is.
-fn row(numbers: usize, first: usize, second: usize, third: usize, fourth: usize) -> Shape
-    ensures { λ r. ⌜ r ≡ row numbers first second third fourth ⌝ }
-{
-    Shape {
-        known: true,
-        numbers: numbers,
-        first: first,
-        second: second,
-        third: third,
-        fourth: fourth,
-    }
-}
-
-// The shape of each call.
-fn shape_of(byte: u8) -> Shape
-    ensures { λ r. ⌜ (r ≡ shape byte) × (r .numbers ≤ 3) ⌝ }
-{
-    match byte {
-        b'r' => row(0, 1, 0, 0, 0),
-        b'l' => row(0, 1, 1, 0, 0),
-        b'e' => row(1, 3, 1, 0, 0),
-        b'o' => row(1, 1, 1, 0, 0),
-        b'b' => row(2, 1, 1, 0, 0),
-        b'v' => row(2, 1, 1, 0, 0),
-        b'c' => row(1, 1, 1, 0, 0),
-        b'n' => row(1, 1, 1, 0, 0),
-        b'w' => row(1, 1, 1, 0, 0),
-        b'x' => row(1, 1, 1, 1, 8),
-        _ => Shape {
-            known: false,
-            numbers: 0,
-            first: 0,
-            second: 0,
-            third: 0,
-            fourth: 0,
-        },
-    }
-}
-
-fn wide(x: u8) -> usize
-    ensures { λ r. ⌜ (r ≡ x) × (r < 256) ⌝ }
-{
-    x as usize
-}
-
-// Four bytes as a number, big-endian.
-fn four(b: &[u8], i: usize) -> usize
-    requires { ⌜ i + 4 ≤ length (now b) ⌝ }
-    ensures { λ r. ⌜ (r ≡ fourAt (now (b .entry)) i) × (r < 2 ^ 32) ⌝ }
-{
-    256 * (256 * (256 * wide(b[i]) + wide(b[i + 1])) + wide(b[i + 2])) + wide(b[i + 3])
-}
-
-// Eight bytes as a number.
-pub fn eight(b: &[u8], i: usize) -> usize
-    requires { ⌜ i + 8 ≤ length (now b) ⌝ }
-    ensures { λ r. ⌜ r ≡ eightAt (now (b .entry)) i ⌝ }
-{
-    4294967296 * four(b, i) + four(b, i + 4)
-}
-
 // Reads k numbers; the others are 0.
 fn read_numbers(buffer: &mut [u8], from: Input, k: usize) -> Numbers
     requires { ⌜ InBuffer from (now buffer) × (k ≤ 3) ⌝ }
@@ -137,7 +64,7 @@ fn read_size(buffer: &mut [u8], from: Input, most: usize) -> Size
 {
     let mut b = [0u8; 4];
     let left = input::fetch(buffer, from, &mut b, 4);
-    let n = four(&b, 0);
+    let n = shapes::four(&b, 0);
     if n > most {
         return Size {
             n: 0,
@@ -179,7 +106,7 @@ fn read_head(buffer: &mut [u8], from: Input) -> Head
 {
     let b = input::next(buffer, from);
     let begun = b.left;
-    let s = shape_of(b.value);
+    let s = shapes::shape_of(b.value);
     let n = read_numbers(buffer, only_if(s.known, begun), s.numbers);
     let values = n.values;
     let left = n.left;

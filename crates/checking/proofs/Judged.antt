@@ -13,25 +13,25 @@ use Rattle.trees.proofs.Theorems.{earned-exactly, pc-exactly}
 use Rattle.trees.specs.Check.{Earned, PC, R, differs, unsure}
 use Rattle.trees.specs.Trees.{Tree, under, wellFormed}
 use Rattle.tables.proofs.Bytes.{entered-proper}
-use Rattle.tables.proofs.Indices.{index-lt}
+use Rattle.triples.proofs.Indices.{index-lt}
 use Rattle.tables.specs.Bytes.{entered}
-use Rattle.tables.specs.Find as Find
-use Rattle.tables.specs.Index.{C, index}
-use Rattle.tables.specs.declared.Triple.{Triple}
+use Rattle.triples.specs.Find as Find
+use Rattle.triples.specs.Index.{C, index}
+use Rattle.triples.specs.declared.Triple.{Triple}
 use Rattle.bodies.proofs.Drawn.{tree-below, tree-formed}
-use Rattle.bodies.proofs.Rules.{good-more, length-good}
+use Rattle.bodies.proofs.Good.{good-more, length-good}
 use Rattle.bodies.specs.Draws.{treeOf}
-use Rattle.groups.specs.Groups.{Candidate, Groups, Meets}
+use Rattle.groups.specs.Groups.{Candidate, Drawn}
 use Rattle.bodies.specs.Nodes.{Good, badLength, mostNodes, nodes}
 use Rattle.answers.proofs.Answered.{first-append, pass-false, then-nothing, then-pass}
 use Rattle.answers.proofs.Good.{body-pass, count-pass}
 use Rattle.answers.specs.Inputs.{Body, Count}
 use Rattle.answers.specs.Looks.{firstRefusal, lookBytes, lookCount, lookLength, lookRules, lookTable, refuseIf}
 use Rattle.answers.specs.declared.Look.the-variants.{Pass, Refuse}
-use Rattle.answers.specs.declared.Refusal.the-variants.{Contradicted, Unforced}
+use Rattle.refusals.specs.declared.Refusal.the-variants.{Contradicted, Unforced}
 use Rattle.checking.specs.Checks.{answerOf, candidateLooks, firstDiffers, firstUnsure, lookPC, triplesLooks}
 use Rattle.checking.proofs.Passing.{pc-first, pi-first}
-use Rattle.tables.specs.Finds.{Hit}
+use Rattle.triples.specs.Finds.{Hit}
 use Rattle.checking.specs.declared.Answer.the-variants.{Passes, Refused}
 
 -- the place of a triple that was found
@@ -105,5 +105,5 @@ module _ (n : ℕ) (b : List ℕ) (small : n ≤ 64) (g : Good n (nodes b)) (l :
   pub within : Below n (under (treeOf b))
   within = tree-below n (nodes b) g (some-nodes .0)
 
-  pub candidate : (groups meets : List ℕ) → Groups (nodes b) groups → Meets (treeOf b) meets → Candidate n (treeOf b) (getD groups 0 0) meets
-  candidate groups meets q m = record { drawn = record { formed = formed; all = q .group 0 (some-nodes .0); meet = m }; below = within }
+  pub candidate : {whole : ℕ} {meets : List ℕ} → Drawn (treeOf b) whole meets → Candidate n (treeOf b) whole meets
+  candidate d = record { drawn = d; below = within }

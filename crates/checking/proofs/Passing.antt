@@ -12,9 +12,9 @@ use Rattle.trees.specs.Check.{PC, PI, differs, unsure}
 use Rattle.trees.specs.Trees.{Tree, under, wellFormed}
 use Rattle.trees.specs.Triplets.{Triplets}
 use Rattle.tables.proofs.Bytes.{entered-proper}
-use Rattle.tables.proofs.Find.{first-le, first-none}
+use Rattle.triples.proofs.Find.{first-le, first-none}
 use Rattle.tables.specs.Bytes.{entered}
-use Rattle.tables.specs.Index.{C}
+use Rattle.triples.specs.Index.{C}
 use Rattle.checking.specs.Checks.{firstDiffers, firstUnsure}
 
 module _ (n : ℕ) (t : List ℕ) (T : Tree) (f : So (wellFormed T)) (sub : Inside (under T) (below n)) where

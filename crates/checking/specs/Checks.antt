@@ -6,14 +6,14 @@ use lib.ListN.{getD, length}
 use Rattle.trees.specs.Check.{differs, unsure}
 use Rattle.trees.specs.Trees.{Tree}
 use Rattle.tables.specs.Bytes.{entered}
-use Rattle.tables.specs.Find.{firstTriple}
-use Rattle.tables.specs.Index.{C}
+use Rattle.triples.specs.Find.{firstTriple}
+use Rattle.triples.specs.Index.{C}
 use Rattle.bodies.specs.Draws.{treeOf}
-use Rattle.answers.specs.Answers.{Told, told}
+use Rattle.refusals.specs.Told.{Told, told}
 use Rattle.answers.specs.Looks.{answered, firstRefusal, lookBytes, lookCount, lookLength, lookRules, lookTable, refuseIf}
-use Rattle.answers.specs.Refusals.{refusalTold}
+use Rattle.refusals.specs.Refusals.{refusalTold}
 use Rattle.answers.specs.declared.Look.{Look}
-use Rattle.answers.specs.declared.Refusal.the-variants.{Contradicted, Unforced}
+use Rattle.refusals.specs.declared.Refusal.the-variants.{Contradicted, Unforced}
 use Rattle.checking.specs.declared.Answer.{Answer}
 use Rattle.checking.specs.declared.Answer.the-variants.{Passes, Refused}
 

@@ -12,7 +12,7 @@ ghost use Rattle.checking.specs.Checks.{answerOf, candidateLooks, lookPC
 
 pub enum Answer {
     Passes,
-    Refused(answers::Refusal),
+    Refused(refusals::Refusal),
 }
 
 // 2, 7, 8, 5, 6: the looks at a table, and at the body of a tree that is held against it.
@@ -29,12 +29,12 @@ pub fn look_pc(n: usize, t: &[u8], whole: u64, meets: &[u64; groups::CELLS]) -> 
 {
     let differs = pc::first_contradiction(n, t, whole, meets);
     match differs {
-        tables::Found::At(x) =>
-            answers::Look::Refuse(answers::Refusal::Contradicted(answers::Contradiction {
-                index: tables::index(x.low, x.mid, x.high),
+        triples::Found::At(x) =>
+            answers::Look::Refuse(refusals::Refusal::Contradicted(refusals::Contradiction {
+                index: triples::index(x.low, x.mid, x.high),
                 byte: tables::byte(t, x.low, x.mid, x.high),
             })),
-        tables::Found::Nowhere => answers::Look::Pass,
+        triples::Found::Nowhere => answers::Look::Pass,
     }
 }
 
@@ -44,10 +44,8 @@ fn judge(n: usize, t: &[u8], body: &[u8]) -> Answer
     ensures { λ r. ⌜ r ≡ answerOf (triplesLooks n (now (t .entry)) (treeOf (now (body .entry)))) ⌝ }
 {
     let mut groups = [0; bodies::MOST_NODES];
-    groups::groups(body, &mut groups);
     let mut meets = [0; groups::CELLS];
-    groups::pairs(body, &groups, &mut meets);
-    let whole = groups[0];
+    let whole = groups::draw(body, &mut groups, &mut meets);
     let look = look_pc(n, t, whole, &meets);
     match look {
         answers::Look::Refuse(x) => Answer::Refused(x),
@@ -59,12 +57,12 @@ fn judge(n: usize, t: &[u8], body: &[u8]) -> Answer
             }
             let loose = pi::first_unforced(n, whole, &meets, &masks);
             match loose {
-                tables::Found::At(x) => Answer::Refused(answers::Refusal::Unforced(tables::index(
+                triples::Found::At(x) => Answer::Refused(refusals::Refusal::Unforced(triples::index(
                     x.low,
                     x.mid,
                     x.high,
                 ))),
-                tables::Found::Nowhere => Answer::Passes,
+                triples::Found::Nowhere => Answer::Passes,
             }
         }
     }

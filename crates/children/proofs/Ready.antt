@@ -5,7 +5,7 @@ use mathlib.Core.Path.{_≡_}
 use Prim.Native.Nat.{_<_, _≤_, ℕ}
 use lib.ListN.{length}
 use Rattle.bodies.proofs.Counts.{all-nodes}
-use Rattle.bodies.proofs.Rules.{good-more, length-good}
+use Rattle.bodies.proofs.Good.{good-more, length-good}
 use Rattle.bodies.specs.Draws.{nodeCount, treeOf}
 use Rattle.bodies.specs.Nodes.{Good, badLength, bodyLength, mostNodes, nodes}
 

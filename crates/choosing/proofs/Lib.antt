@@ -1,2 +1,2 @@
 -- Laws of the lines that calls get.
-mod Chosen
+pub mod Chosen

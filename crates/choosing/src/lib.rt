@@ -17,7 +17,7 @@ pub fn call_line(
     out: &mut [u8],
     at: usize,
 ) -> usize
-    requires { ⌜ Room at (now first) (now second) (now third) (now fourth) (now records) (now list) (now out) ⌝ }
+    requires { ⌜ Room (now first) (now fourth) (now records) (now list) ⌝ }
     ensures { λ r. ⌜ Writes (now (out .entry)) at (callLine byte n m (now (first .entry)) (now (second .entry)) (now (third .entry)) (now (fourth .entry))) (now (out .exit)) r ⌝ }
 {
     match byte {

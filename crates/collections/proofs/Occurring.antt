@@ -8,7 +8,7 @@ use lib.ListN.{length}
 use Rattle.sets.proofs.Tests.{number-empty, number-union}
 use Rattle.sets.specs.Sets.{number, union}
 use Rattle.trees.specs.Trees.{under}
-use Rattle.bodies.proofs.Rules.{good-more}
+use Rattle.bodies.proofs.Good.{good-more}
 use Rattle.bodies.specs.Draws.{treeOf}
 use Rattle.bodies.specs.Nodes.{Good, badLength, nodes}
 use Rattle.groups.specs.Groups.{setOf}

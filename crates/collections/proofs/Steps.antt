@@ -7,7 +7,7 @@ use native.Mathlib.Numerals.{add-one}
 use native.Mathlib.Omega.{arith}
 use borrow.Author.Tests.{le-ltb, lt-ltb, ltb-false}
 use lib.ListN.{drop, length, take}
-use Rattle.bodies.specs.Faults.{fault}
+use Rattle.rules.specs.Faults.{fault}
 use Rattle.bodies.specs.Nodes.{Good, badLength, nodes}
 use Rattle.bodies.specs.declared.Verdict.{Verdict}
 use Rattle.answers.proofs.Answered.{first-on, first-stop, pass-false, then-nothing, then-pass}
@@ -15,8 +15,8 @@ use Rattle.answers.proofs.Good.{rules-pass}
 use Rattle.answers.specs.Looks.{answered, firstRefusal, lookLength, lookRules, refuseIf, ruled}
 use Rattle.answers.specs.declared.Look.{Look}
 use Rattle.answers.specs.declared.Look.the-variants.{Pass, Refuse}
-use Rattle.answers.specs.declared.Refusal.{Refusal}
-use Rattle.answers.specs.declared.Refusal.the-variants.{BadLength, EndsEarly, LeftOver}
+use Rattle.refusals.specs.declared.Refusal.{Refusal}
+use Rattle.refusals.specs.declared.Refusal.the-variants.{BadLength, EndsEarly, LeftOver}
 use Rattle.collections.proofs.Starts.{start-step}
 use Rattle.collections.specs.Layout.{bodyAt, lengthAt, shortBody, shortLength, species, start}
 use Rattle.collections.specs.Reads.{looksFrom, nextOf, treeLooks}

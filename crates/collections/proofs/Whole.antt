@@ -9,19 +9,20 @@ use borrow.Author.Tests.{eq-eqb, eqb-false, eqb-true, le-ltb, ltb-false, ne-eqb,
 use lib.Dec.{eqb, ltb}
 use lib.ListN.{length}
 use Rattle.sets.proofs.Bools.{ne-e, or-none, test}
-use Rattle.bodies.proofs.Rules.{length-most, no-fault}
+use Rattle.bodies.proofs.Good.{length-most}
+use Rattle.rules.proofs.Rules.{no-fault}
 use Rattle.bodies.specs.Nodes.{badLength, longest, nodes}
 use Rattle.answers.proofs.Answered.{pass-false, then-pass}
 use Rattle.answers.proofs.Good.{rules-pass}
 use Rattle.answers.specs.Looks.{answered, firstRefusal, lookLength, lookRules, refuseIf}
 use Rattle.answers.specs.declared.Look.{Look}
 use Rattle.answers.specs.declared.Look.the-variants.{Pass, Refuse}
-use Rattle.answers.specs.declared.Refusal.{Refusal}
-use Rattle.answers.specs.declared.Refusal.the-variants.{BadCounts, BadVersion, EndsEarly}
+use Rattle.refusals.specs.declared.Refusal.{Refusal}
+use Rattle.refusals.specs.declared.Refusal.the-variants.{BadCounts, BadVersion, EndsEarly}
 use Rattle.collections.proofs.Starts.{body-length, start-suc}
 use Rattle.collections.proofs.Steps.{Sound, end-good}
 use Rattle.collections.specs.Collection.{Collection}
-use Rattle.collections.specs.Layout.{bodyAt, lengthAt, noByte, shortBody, shortHeader, shortLength, species, start, trees, version, wrongCounts, wrongVersion}
+use Rattle.collections.specs.Layout.{bodyAt, lengthAt, longestCollection, noByte, shortBody, shortHeader, shortLength, species, start, trees, version, wrongCounts, wrongVersion}
 use Rattle.collections.specs.Reads.{countsOf, looksFrom, readAnswer, readLooks}
 use Rattle.collections.specs.declared.Answer.the-variants.{Done, Refused}
 use Rattle.collections.specs.declared.Counts.{Counts}
@@ -106,8 +107,7 @@ module _ (b : List ℕ) (w : Collection b) where
         le-ltb 16 (trees b) (w .few),
       ) (rest-pass 0 (trees b) (omega arith))
 
-  -- "The largest has 4,099 bytes."
-  pub whole-most : length b ≤ 4099
+  pub whole-most : length b ≤ longestCollection
   whole-most = omega (arith, w .end, w .few, start-most b (trees b) (λ m l. length-most (lengthAt b (start b m)) (w .long m l)))
 
   -- each body has a good length

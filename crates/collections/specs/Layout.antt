@@ -5,6 +5,11 @@ use mathlib.Core.List.{List}
 use Prim.Native.Nat.{ℕ, zero, suc, _+_, _*_}
 use lib.Dec.{eqb, ltb}
 use lib.ListN.{length, getD, take, drop}
+use Rattle.bodies.specs.Nodes.{longest}
+
+-- "The largest has 4,099 bytes": its header, and 16 trees, each with two bytes of length and the longest body
+abbrev pub longestCollection : ℕ
+longestCollection = 3 + 16 * (2 + longest)
 
 module _ (b : List ℕ) where
   abbrev pub version : ℕ

@@ -4,11 +4,11 @@ use mathlib.Core.List.{List, [], _∷_, _++_}
 use Prim.Native.Nat.{ℕ, zero, suc, _-_}
 use lib.Dec.{ltb}
 use lib.ListN.{length}
-use Rattle.answers.specs.Answers.{Told, Value, occurring-set, species-count, told, tree-count, value}
+use Rattle.refusals.specs.Told.{Told, Value, occurring-set, species-count, told, tree-count, value}
 use Rattle.answers.specs.Looks.{answered, firstRefusal, lookLength, lookRules, refuseIf}
-use Rattle.answers.specs.Refusals.{refusalTold}
+use Rattle.refusals.specs.Refusals.{refusalTold}
 use Rattle.answers.specs.declared.Look.{Look}
-use Rattle.answers.specs.declared.Refusal.the-variants.{BadCounts, BadVersion, EndsEarly, LeftOver}
+use Rattle.refusals.specs.declared.Refusal.the-variants.{BadCounts, BadVersion, EndsEarly, LeftOver}
 use Rattle.collections.specs.declared.Answer.{Answer}
 use Rattle.collections.specs.declared.Answer.the-variants.{Done, Refused}
 use Rattle.collections.specs.declared.Counts.{Counts}

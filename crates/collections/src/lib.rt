@@ -22,7 +22,7 @@ pub struct Counts {
 
 pub enum Answer {
     Done(Counts),
-    Refused(answers::Refusal),
+    Refused(refusals::Refusal),
 }
 
 // Where a tree's body stands: from start up to, and not with, end.
@@ -65,7 +65,7 @@ pub fn body_span(b: &[u8], k: usize) -> Span
 // After one tree: where the next one starts, or the refusal.
 enum Next {
     At(usize),
-    Stop(answers::Refusal),
+    Stop(refusals::Refusal),
 }
 
 fn one_tree(b: &[u8], n: usize, k: usize, at: usize) -> Next
@@ -74,21 +74,21 @@ fn one_tree(b: &[u8], n: usize, k: usize, at: usize) -> Next
 {
     let left = b.len() - at;
     if left < 2 {
-        return Next::Stop(answers::Refusal::EndsEarly(k));
+        return Next::Stop(refusals::Refusal::EndsEarly(k));
     }
     let l = length_at(b, at);
     if bodies::bad_length(l) {
-        return Next::Stop(answers::Refusal::BadLength(k));
+        return Next::Stop(refusals::Refusal::BadLength(k));
     }
     if left - 2 < l {
-        return Next::Stop(answers::Refusal::EndsEarly(k));
+        return Next::Stop(refusals::Refusal::EndsEarly(k));
     }
     let from = at + 2;
     let to = from + l;
-    let v = bodies::first_fault(k, n, &b[from..to]);
+    let v = rules::first_fault(k, n, &b[from..to]);
     match v {
         bodies::Verdict::Fine => Next::At(to),
-        bodies::Verdict::Breaks(x) => Next::Stop(answers::Refusal::BadTree(x)),
+        bodies::Verdict::Breaks(x) => Next::Stop(refusals::Refusal::BadTree(x)),
     }
 }
 
@@ -125,7 +125,7 @@ fn all_trees(b: &[u8], n: usize, m: usize) -> Answer
         k += 1;
     }
     if at < b.len() {
-        return Answer::Refused(answers::Refusal::LeftOver(b.len() - at));
+        return Answer::Refused(refusals::Refusal::LeftOver(b.len() - at));
     }
     Answer::Done(Counts {
         n: n,
@@ -152,18 +152,18 @@ pub fn read(b: &[u8]) -> Answer
     ensures { λ r. ⌜ r ≡ readAnswer (now (b .entry)) ⌝ }
 {
     if b.len() == 0 {
-        return Answer::Refused(answers::Refusal::EndsEarly(0));
+        return Answer::Refused(refusals::Refusal::EndsEarly(0));
     }
     if b[0] != 1 {
-        return Answer::Refused(answers::Refusal::BadVersion);
+        return Answer::Refused(refusals::Refusal::BadVersion);
     }
     if b.len() < 3 {
-        return Answer::Refused(answers::Refusal::EndsEarly(0));
+        return Answer::Refused(refusals::Refusal::EndsEarly(0));
     }
     let n = wide(b[1]);
     let m = wide(b[2]);
     if wrong_counts(n, m) {
-        return Answer::Refused(answers::Refusal::BadCounts);
+        return Answer::Refused(refusals::Refusal::BadCounts);
     }
     all_trees(b, n, m)
 }

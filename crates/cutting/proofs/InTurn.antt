@@ -3,34 +3,28 @@ use mathlib.Core.Bool.{Bool, So, cond, true}
 use mathlib.Core.List.{List, [], _∷_, _++_, append-assoc}
 use mathlib.Core.Logic.{_≢_}
 use mathlib.Core.Path.{_∙_, _≡_, ap, subst, sym}
-use Prim.Native.Nat.{_+_, _<_, _≤_, ℕ}
-use native.Mathlib.Omega.{arith}
+use Prim.Native.Nat.{_<_, ℕ}
 use borrow.Author.Tests.{eqb-true}
-use lib.ListN.{getD, length, length-append}
-use Rattle.sets.proofs.Bools.{or-l}
-use Rattle.sets.proofs.Digits.{minus-le}
-use Rattle.sets.proofs.Facts.{minus-e}
-use Rattle.sets.proofs.Tests.{has-number}
-use Rattle.sets.specs.Sets.{Lowest, has, minus}
+use lib.ListN.{getD}
+use Rattle.sets.specs.Sets.{Lowest, minus}
 use Rattle.sets.specs.Species.{Species}
 use Rattle.trees.proofs.Cut.{cut-none, cut-some}
 use Rattle.trees.proofs.CutRule.{cut-forks}
 use Rattle.trees.proofs.House.{house-under}
 use Rattle.trees.proofs.Kids.{every-child}
-use Rattle.trees.proofs.Lowest.{some-species}
 use Rattle.trees.specs.Cut.{Touches, cut, cutF}
 use Rattle.trees.specs.Loosen.{append}
-use Rattle.trees.specs.Trees.{Forest, Tree, cons, house, leaf, nil, under, underF}
-use Rattle.bodies.proofs.Drawn.{subtree-below, subtree-formed}
+use Rattle.trees.specs.Trees.{Forest, Tree, cons, house, leaf, nil, under}
 use Rattle.bodies.proofs.Under.{is-child}
 use Rattle.bodies.specs.Draws.{subtree}
 use Rattle.bodies.specs.Nodes.{Good, Nodes, children, none}
 use Rattle.groups.specs.Groups.{Groups, setOf}
-use Rattle.children.proofs.Left.{KidOf, Left, NextChild, Opened, alone, every-kid, housed, left-end, left-next, left-start, opened, parted}
+use Rattle.children.proofs.Left.{KidOf, Left, Opened, alone, every-kid, housed, left-end, left-next, left-start, opened, parted}
 use Rattle.children.specs.Children.{FindsChild}
 use Rattle.writing.proofs.Writing.{writes-as, writes-both, writes-nothing}
 use Rattle.writing.specs.Texts.{decimal}
 use Rattle.writing.specs.Writes.{Writes}
+use Rattle.rendering.proofs.InTurn.{off-fewer}
 use Rattle.rendering.specs.Texts.{childrenText}
 use Rattle.cutting.specs.Descends.{Descends}
 use Rattle.cutting.specs.Texts.{cutText, firstText}
@@ -48,75 +42,45 @@ pub record Todo (v : Nodes) (U : Species) (i at : ℕ) (o d : List ℕ) (next m 
   pub wrote : Writes o at done d next
   pub whole : done ++ childrenText m (cutF U forest) ≡ textAt v U i
 
--- the next child c is touched: it fits in, and what is to do once it was written
-pub record Touched {v : Nodes} {U : Species} {i at : ℕ} {o d : List ℕ} {next m rest : ℕ} (t : Todo v U i at o d next m rest) (c : ℕ) : Type 0 where
-  pub fits : next + length (textAt v U c) + 2 ≤ at + length (textAt v U i)
-  pub again : (d′ d″ : List ℕ) (begun next′ rest′ : ℕ) → Writes d next (m ∷ []) d′ begun → Writes d′ begun (textAt v U c) d″ next′ → rest′ ≡ minus rest (setOf (subtree v c))
-      → Todo v U i at o d″ next′ 44 rest′
-
--- the next child is c
+-- the next child is c: what is to do once it was written, where it is touched, and once it was passed
 pub record Next {v : Nodes} {U : Species} {i at : ℕ} {o d : List ℕ} {next m rest : ℕ} (t : Todo v U i at o d next m rest) (c : ℕ) : Type 0 where
   pub later : i < c
   pub within : c < v .count
   pub fewer : minus rest (setOf (subtree v c)) < rest
-  pub touched : Touches U (subtree v c) → Touched t c
+  pub touched : Touches U (subtree v c) → (d′ d″ : List ℕ) (begun next′ rest′ : ℕ) → Writes d next (m ∷ []) d′ begun → Writes d′ begun (textAt v U c) d″ next′
+      → rest′ ≡ minus rest (setOf (subtree v c)) → Todo v U i at o d″ next′ 44 rest′
   pub passed : (Touches U (subtree v c) → ⊥) → (rest′ : ℕ) → rest′ ≡ minus rest (setOf (subtree v c)) → Todo v U i at o d next m rest′
 
 pub todo-as : {v : Nodes} {U : Species} {i at : ℕ} {o d d′ : List ℕ} {next next′ m m′ rest : ℕ} → d′ ≡ d → next′ ≡ next → m′ ≡ m
     → Todo v U i at o d next m rest → Todo v U i at o d′ next′ m′ rest
 todo-as ed en em t = rw (ed, en, em) t
 
-some-children : (m : ℕ) (f : Forest) → 1 ≤ length (childrenText m f)
-some-children m nil = omega arith
-some-children m (cons t f) = omega arith
-
 module _ (v : Nodes) (g : Good 64 v) where
-  -- a child that is taken off was there
-  off-fewer : {i rest : ℕ} {f : Forest} {c : ℕ} → Left v i rest f → NextChild v i rest f c → minus rest (setOf (subtree v c)) < rest
-  off-fewer {i = i} {rest = rest} {f = f} {c = c} l k =
-      let (x, h) = some-species (subtree v c) (subtree-formed 64 v g c (k .within)) in
-      let lt = subtree-below 64 v g c (k .within) x h in
-      let here : So (has rest x) = ap (λ (z : ℕ). has z x) (l .species) ∙ has-number 64 (underF f) x lt ∙ ap (λ (z : Forest). underF z x) (k .is)
-      ∙ or-l (under (house (subtree v c)) x) _ (house-under (subtree v c) x ∙ h) in
-      let ne : minus rest (setOf (subtree v c)) ≡ rest → ⊥ = λ e. minus-e rest (setOf (subtree v c)) x (subst (λ (z : ℕ). So (has z x)) (sym e) here) .1
-      (has-number 64 (under (subtree v c)) x lt ∙ h) in
-      omega (arith, minus-le rest (setOf (subtree v c)), ne)
-
   module _ (U : Species) where
     house-touches : (i : ℕ) → Touches U (subtree v i) → Touches U (house (subtree v i))
     house-touches i t = (t .0, house-under (subtree v i) (t .0) ∙ t .1, t .2)
 
     pub todo-next : (groups : List ℕ) → Groups v groups → {i at : ℕ} {o d : List ℕ} {next m rest : ℕ} (t : Todo v U i at o d next m rest)
         → rest ≢ 0 → (x : ℕ) → Lowest rest x → (c : ℕ) → FindsChild v groups i x c → Next t c
-    todo-next groups q {i = i} {at = at} {o = o} {d = d} {next = next} {m = m} t nz x l c found =
+    todo-next groups q {i = i} {m = m} t nz x l c found =
         let k = left-next v g groups q (t .left) nz x l c found in
         let left : t .done ++ childrenText m (append (cut U (house (subtree v c))) (cutF U (k .others))) ≡ textAt v U i
         = ap (λ (f : Forest). t .done ++ childrenText m (cutF U f)) (sym (k .is)) ∙ t .whole in
         record {
           later = k .later;
           within = k .within;
-          fewer = off-fewer (t .left) k;
-          touched = λ h.
+          fewer = off-fewer v g (t .left) k;
+          touched = λ h d′ d″ begun next′ rest′ a b es.
               let s = cut-some U (house (subtree v c)) (house-touches c h) in
               let e : t .done ++ (m ∷ (textAt v U c ++ childrenText 44 (cutF U (k .others)))) ≡ textAt v U i
               = ap (λ (f : Forest). t .done ++ (m ∷ (firstText f ++ childrenText 44 (cutF U (k .others))))) (s .1)
               ∙ ap (λ (f : Forest). t .done ++ childrenText m (append f (cutF U (k .others)))) (sym (s .1)) ∙ left in
               record {
-                fits = omega (
-                  arith,
-                  ap length e,
-                  length-append (t .done) (m ∷ (textAt v U c ++ childrenText 44 (cutF U (k .others)))),
-                  length-append (textAt v U c) (childrenText 44 (cutF U (k .others))),
-                  some-children 44 (cutF U (k .others)),
-                  t .wrote .next,
-                );
-                again = λ d′ d″ begun next′ rest′ a b es. record {
-                  forest = k .others;
-                  left = k .left rest′ es;
-                  done = t .done ++ (m ∷ textAt v U c);
-                  wrote = writes-both o at (t .done) (m ∷ textAt v U c) d d″ next next′ (t .wrote) (writes-both d next (m ∷ []) (textAt v U c) d′ d″ begun next′ a b);
-                  whole = append-assoc (t .done) (m ∷ textAt v U c) (childrenText 44 (cutF U (k .others))) ∙ e;
-                };
+                forest = k .others;
+                left = k .left rest′ es;
+                done = t .done ++ (m ∷ textAt v U c);
+                wrote = writes-both (t .wrote) (writes-both a b);
+                whole = append-assoc (t .done) (m ∷ textAt v U c) (childrenText 44 (cutF U (k .others))) ∙ e;
               };
           passed = λ n rest′ es. record {
             forest = k .others;
@@ -130,12 +94,8 @@ module _ (v : Nodes) (g : Good 64 v) where
 
     -- no child is left: a bracket closes the text
     pub todo-end : {i at : ℕ} {o d : List ℕ} {next m rest : ℕ} → Todo v U i at o d next m rest → rest ≡ 0
-        → (next + 1 ≤ at + length (textAt v U i)) × ((d′ : List ℕ) (r : ℕ) → Writes d next (41 ∷ []) d′ r → Writes o at (textAt v U i) d′ r)
-    todo-end {i = i} {at = at} {o = o} {d = d} {next = next} {m = m} t z =
-        let e : t .done ++ (41 ∷ []) ≡ textAt v U i = ap (λ (f : Forest). t .done ++ childrenText m (cutF U f)) (sym (left-end v g (t .left) z)) ∙ t .whole in (
-          omega (arith, ap length e, length-append (t .done) (41 ∷ []), t .wrote .next),
-          λ d′ r a. writes-as o at (t .done ++ (41 ∷ [])) (textAt v U i) d′ r e (writes-both o at (t .done) (41 ∷ []) d d′ next r (t .wrote) a),
-        )
+        → (d′ : List ℕ) (r : ℕ) → Writes d next (41 ∷ []) d′ r → Writes o at (textAt v U i) d′ r
+    todo-end {m = m} t z d′ r a = writes-as (ap (λ (f : Forest). t .done ++ childrenText m (cutF U f)) (sym (left-end v g (t .left) z)) ∙ t .whole) (writes-both (t .wrote) a)
 
     module _ {i r : ℕ} (d : Descends v U i r (v .count)) (touch : Touches U (subtree v i)) where
       -- where the search went down to has the same text
@@ -157,9 +117,9 @@ module _ (v : Nodes) (g : Good 64 v) where
           by (parted k t) = absurd (n k)
 
       -- nothing of a node with children was written yet
-      pub todo-start : (groups : List ℕ) → Groups v groups → v .species r ≡ none → (at : ℕ) (o : List ℕ) → at ≤ length o → (rest : ℕ) → rest ≡ getD groups r 0
+      pub todo-start : (groups : List ℕ) → Groups v groups → v .species r ≡ none → (at : ℕ) (o : List ℕ) (rest : ℕ) → rest ≡ getD groups r 0
           → Todo v U r at o o at 40 rest
-      todo-start groups q n at o l rest e = by (opened v g r (d .within))
+      todo-start groups q n at o rest e = by (opened v g r (d .within))
         where
           by : Opened v r → Todo v U r at o o at 40 rest
           by (alone k c t) = absurd (k n)
@@ -167,7 +127,7 @@ module _ (v : Nodes) (g : Good 64 v) where
             forest = _;
             left = left-start v g r (d .within) groups q none rest (sym n) e;
             done = [];
-            wrote = writes-nothing o at l;
+            wrote = writes-nothing o at;
             whole = sym (ap firstText (ap (λ (z : Tree). cut U (house z)) t ∙ cut-forks U (housed v (children v r)) (subst (λ (z : Tree). Touches U (house z)) t (house-touches r there))
                 (λ s m all. let (c, ch, es) = every-child (KidOf v r) s (housed v (children v r)) (every-kid v r (children v r) (is-child v r)) m in
                 d .parts c (ch .within) (ch .later) (ch .parent) (λ x p u. sym (house-under (subtree v c) x) ∙ ap (λ (z : Tree). under z x) (sym es)

@@ -1,7 +1,6 @@
 // A paper's tree cut to a set of species, as Newick text in the order of the paper's own line.
 ghost use mathlib.Core.List.{[], _∷_, _++_};
-ghost use Prim.Native.Nat.{_+_, _<_, _≤_};
-ghost use lib.ListN.{length};
+ghost use Prim.Native.Nat.{_<_, _≤_};
 ghost use Rattle.sets.specs.Sets.{has};
 ghost use Rattle.trees.specs.Cut.{Touches};
 ghost use Rattle.trees.specs.Trees.{house};
@@ -9,7 +8,6 @@ ghost use Rattle.bodies.specs.Nodes.{nodes, mostNodes, Good};
 ghost use Rattle.bodies.specs.Draws.{subtree, treeOf};
 ghost use Rattle.groups.specs.Groups.{Groups};
 ghost use Rattle.writing.specs.Writes.{Writes};
-ghost use Rattle.rendering.specs.Texts.{textRoom};
 ghost use Rattle.cutting.specs.Descends.{Descends};
 ghost use Rattle.cutting.specs.Texts.{cutText};
 
@@ -46,7 +44,6 @@ fn put(
     requires { ⌜ Groups (nodes (now body)) (now groups) ⌝ }
     requires { ⌜ (i < nodes (now body) .count) × (nodes (now body) .count ≤ mostNodes) ⌝ }
     requires { ⌜ Touches (has set) (subtree (nodes (now body)) i) ⌝ }
-    requires { ⌜ at + length (cutText (has set) (house (subtree (nodes (now body)) i))) ≤ length (now out) ⌝ }
     ensures { λ r. ⌜ Writes (now (out .entry)) at (cutText (has set) (house (subtree (nodes (now (body .entry))) i))) (now (out .exit)) r ⌝ }
 {
     let top = descend(body, groups, i, set);
@@ -74,7 +71,6 @@ pub fn put_cut(body: &[u8], set: u64, out: &mut [u8], at: usize) -> usize
     requires { ⌜ Good 64 (nodes (now body)) ⌝ }
     requires { ⌜ (0 < nodes (now body) .count) × (nodes (now body) .count ≤ mostNodes) ⌝ }
     requires { ⌜ Touches (has set) (treeOf (now body)) ⌝ }
-    requires { ⌜ at + textRoom ≤ length (now out) ⌝ }
     ensures { λ r. ⌜ Writes (now (out .entry)) at (cutText (has set) (house (treeOf (now (body .entry)))) ++ (59 ∷ [])) (now (out .exit)) r ⌝ }
 {
     let mut groups = [0; bodies::MOST_NODES];

@@ -14,7 +14,7 @@ use Rattle.trees.specs.Triplets.{Proper, Triplets}
 use Rattle.bodies.proofs.Back.{body-back, body-count, body-good}
 use Rattle.bodies.proofs.Laid.{count-pos}
 use Rattle.bodies.proofs.Preorder.{body-groups, body-one, groups-split, groupsFrom, of-groups}
-use Rattle.bodies.proofs.Rules.{good-more}
+use Rattle.bodies.proofs.Good.{good-more}
 use Rattle.bodies.specs.Draws.{bodyOf, nodeCount, subtree}
 use Rattle.bodies.specs.Nodes.{Good, Nodes, nodes}
 use Rattle.earned.proofs.Earning.{first-earned}

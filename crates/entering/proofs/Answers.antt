@@ -11,13 +11,14 @@ use Rattle.answers.proofs.Good.{count-pass}
 use Rattle.answers.specs.Looks.{answered, firstRefusal, lookCount, lookTable, refuseIf}
 use Rattle.answers.specs.declared.Look.{Look}
 use Rattle.answers.specs.declared.Look.the-variants.{Pass, Refuse}
-use Rattle.answers.specs.declared.Refusal.{Refusal}
+use Rattle.refusals.specs.declared.Refusal.{Refusal}
 use Rattle.tables.specs.Bytes.{wrongLength}
-use Rattle.tables.specs.Index.{C}
-use Rattle.entering.proofs.Filling.{fill-table}
+use Rattle.triples.specs.Index.{C}
+use Rattle.records.proofs.Filling.{fill-table}
+use Rattle.records.proofs.Records.{firstBad-le}
+use Rattle.records.specs.Records.{fill, firstBad}
 use Rattle.entering.proofs.Gathering.{gathered-first}
-use Rattle.entering.proofs.Records.{firstBad-le}
-use Rattle.entering.specs.Enters.{Enters, enterLooks, entry, fill, firstBad, decided, decidedLooks}
+use Rattle.entering.specs.Enters.{Enters, enterLooks, entry, decided, decidedLooks}
 use Rattle.entering.specs.Passes.{Ready, cleared, filled, gathered}
 use Rattle.entering.specs.declared.Answer.{Answer}
 use Rattle.entering.specs.declared.Answer.the-variants.{Done, Refused}

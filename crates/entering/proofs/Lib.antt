@@ -1,5 +1,3 @@
 -- The laws of entering.
-pub mod Records
-pub mod Filling
 pub mod Gathering
 pub mod Answers

@@ -1,68 +1,19 @@
--- Entering a list of triplets into a table. Document 01, "Numbers handed back": "Entering takes a lent list of records of three numbers, the first
--- two being the close pair in either order. Repeats of a triplet are allowed; an empty list gives a table of zeros."
-use mathlib.Core.Bool.{Bool, _&&_, _||_, cond, false, not}
+-- Entering a list of triplets into a table: its refusals in their order, and what 0 returns and leaves. Document 01, "Numbers handed back".
 use mathlib.Core.List.{List, [], _∷_}
-use Prim.Native.Nat.{suc, ℕ}
-use lib.Dec.{eqb, ltb}
-use lib.ListN.{getD, length, replicate}
+use Prim.Native.Nat.{ℕ}
+use lib.Dec.{ltb}
+use lib.ListN.{length}
 use Rattle.sets.specs.Sets.{number}
-use Rattle.sets.specs.Species.{Species}
-use Rattle.tables.specs.Bytes.{enter}
 use Rattle.tables.specs.Filled.{plain, tableFor}
-use Rattle.tables.specs.Index.{C}
-use Rattle.trees.specs.Triplets.{Triplets, both, different, only}
-use Rattle.answers.specs.Answers.{Told, Value, occurring-set, species-count, told, value}
+use Rattle.refusals.specs.Told.{Told, Value, occurring-set, species-count, told, value}
 use Rattle.answers.specs.Looks.{Settled, after, answered, firstRefusal, lookCount, lookTable, refuseIf}
-use Rattle.answers.specs.Refusals.{refusalTold}
+use Rattle.refusals.specs.Refusals.{refusalTold}
 use Rattle.answers.specs.declared.Look.{Look}
-use Rattle.answers.specs.declared.Refusal.the-variants.{BadRecord}
+use Rattle.refusals.specs.declared.Refusal.the-variants.{BadRecord}
+use Rattle.records.specs.Records.{firstBad, inRecords, occursIn}
 use Rattle.entering.specs.declared.Answer.{Answer}
 use Rattle.entering.specs.declared.Answer.the-variants.{Done, Refused}
 use Rattle.entering.specs.declared.Entry.{Entry}
-
--- the three numbers of a record, left right|outer
-abbrev pub left : List ℕ → ℕ
-left r = getD r 0 0
-
-abbrev pub right : List ℕ → ℕ
-right r = getD r 1 0
-
-abbrev pub outer : List ℕ → ℕ
-outer r = getD r 2 0
-
--- "repeats a species or has one not below n": of three numbers, and of a record
-unfoldable pub bad : ℕ → ℕ → ℕ → ℕ → Bool
-bad n a b c = not (different a b c) || not (ltb a n && (ltb b n && ltb c n))
-
-abbrev pub badRecord : ℕ → List ℕ → Bool
-badRecord n r = bad n (left r) (right r) (outer r)
-
--- "first record": the place of the first bad one, counted from 0; the length where there is none
-unfoldable pub firstBad : ℕ → List (List ℕ) → ℕ
-firstBad n [] = 0
-firstBad n (r ∷ rs) = cond (badRecord n r) 0 (suc (firstBad n rs))
-
--- the records entered one after the other
-unfoldable pub fill : List (List ℕ) → List ℕ → List ℕ
-fill [] t = t
-fill (r ∷ rs) t = fill rs (enter t (left r) (right r) (outer r))
-
--- the triplets that the records say
-unfoldable pub inRecords : List (List ℕ) → Triplets
-inRecords [] a b c = false
-inRecords (r ∷ rs) a b c = both (only (left r) (right r) (outer r)) (inRecords rs) a b c
-
--- the species that the records name: the set that occurs. Request T-03: "Listing and entering now also return the set that occurs".
-abbrev pub inRecord : List ℕ → Species
-inRecord r x = eqb (left r) x || (eqb (right r) x || eqb (outer r) x)
-
-unfoldable pub occursIn : List (List ℕ) → Species
-occursIn [] x = false
-occursIn (r ∷ rs) x = inRecord r x || occursIn rs x
-
--- a table of n species that says nothing
-abbrev pub zeros : ℕ → List ℕ
-zeros n = replicate (C n 3) 0
 
 -- "Entering: 2, 7, 13", for n species, m records of which the first bad one is k, and a table of l bytes
 abbrev pub decidedLooks : ℕ → ℕ → ℕ → ℕ → List Look

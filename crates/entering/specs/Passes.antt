@@ -5,11 +5,11 @@ use mathlib.Core.Path.{_≡_}
 use Prim.Native.Nat.{_≤_, ℕ}
 use lib.ListN.{length, replicate}
 use Rattle.sets.specs.Sets.{number, union}
-use Rattle.tables.specs.Index.{C}
+use Rattle.triples.specs.Index.{C}
+use Rattle.records.specs.Records.{fill, firstBad, occursIn}
 use Rattle.entering.specs.declared.Answer.{Answer}
 use Rattle.entering.specs.declared.Answer.the-variants.{Done, Refused}
 use Rattle.entering.specs.declared.Entry.{Entry}
-use Rattle.entering.specs.Enters.{fill, firstBad, occursIn}
 
 -- the table before it is filled
 unfoldable pub cleared : Answer → List ℕ → List ℕ

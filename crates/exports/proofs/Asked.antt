@@ -2,7 +2,7 @@
 use mathlib.Core.List.{List}
 use mathlib.Core.Path.{_≡_, refl, subst, sym}
 use Prim.Native.Nat.{ℕ}
-use Rattle.tables.specs.declared.Named.{Named}
+use Rattle.triples.specs.declared.Named.{Named}
 use Rattle.laying.specs.Codes.{laid}
 use Rattle.exports.specs.Asked.{tripleAnswer, tripleSpecies}
 

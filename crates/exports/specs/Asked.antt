@@ -1,8 +1,8 @@
 -- The question which triple has a given index, and what is laid down with its answer.
 use mathlib.Core.List.{List, [], _∷_}
 use Prim.Native.Nat.{ℕ}
-use Rattle.tables.specs.declared.Named.{Named}
-use Rattle.tables.specs.declared.Named.the-variants.{Known, Beyond}
+use Rattle.triples.specs.declared.Named.{Named}
+use Rattle.triples.specs.declared.Named.the-variants.{Known, Beyond}
 
 -- Is there a triple with a given index? Document 01 names no refusal for an index beyond its triples ("(61,62,63) has 41,663"), so this is a question:
 -- 1 for yes, 0 for no

@@ -12,8 +12,9 @@ ghost use Rattle.building.specs.Vetoes.{vetoAnswer, vetoAfter};
 ghost use Rattle.parsing.specs.Parses.{parseAnswer, parseAfter, parseTold};
 ghost use Rattle.rendering.specs.Renders.{renderAnswer, renderAfter, renderTold};
 ghost use Rattle.checking.specs.Checks.{checkAnswer, checkTold};
-ghost use Rattle.loosening.specs.Loosens.{lent, loosenAnswer, loosenAfter, loosenTold};
-ghost use Rattle.tables.specs.Named.{named};
+ghost use Rattle.easing.specs.Eases.{lent};
+ghost use Rattle.loosening.specs.Loosens.{loosenAnswer, loosenAfter, loosenTold};
+ghost use Rattle.triples.specs.Named.{named};
 ghost use Rattle.laying.specs.Codes.{laid, Handed};
 ghost use Rattle.exports.specs.Asked.{tripleAnswer, tripleSpecies};
 
@@ -160,14 +161,14 @@ pub extern "C" fn koodhaxil_triple(index: usize, values: &mut [usize]) -> usize
     ensures { λ r. ⌜ r ≡ tripleAnswer (named index) ⌝ }
     ensures { λ _. ⌜ now (values .exit) ≡ laid (tripleSpecies (named index)) (now (values .entry)) ⌝ }
 {
-    let t = tables::triple_at(index);
+    let t = triples::triple_at(index);
     match t {
-        tables::Named::Known(x) => {
+        triples::Named::Known(x) => {
             laying::put(values, 0, x.low);
             laying::put(values, 1, x.mid);
             laying::put(values, 2, x.high);
             1
         }
-        tables::Named::Beyond => 0,
+        triples::Named::Beyond => 0,
     }
 }

@@ -9,7 +9,7 @@ ghost use Rattle.trees.specs.Trees.{Tree};
 ghost use Rattle.trees.specs.Triplets.{different};
 ghost use Rattle.bodies.specs.Nodes.{nodes, mostNodes, Good};
 ghost use Rattle.bodies.specs.Draws.{treeOf};
-ghost use Rattle.groups.specs.Groups.{setOf, Groups, cells, cell, Stamped, Meets, says};
+ghost use Rattle.groups.specs.Groups.{setOf, Groups, cells, cell, Stamped, Meets, Drawn, says};
 
 // What a tree says of three species a, b and c: ab|c, ac|b or bc|a; that they are a fan; or that not all of them are here.
 pub enum Says {
@@ -92,7 +92,7 @@ fn stamp(g: u64, out: &mut [u64; CELLS])
 }
 
 // The smallest common group of each two species: a parent stands before its children, so it is the last group that has both.
-pub fn pairs(body: &[u8], groups: &[u64; bodies::MOST_NODES], out: &mut [u64; CELLS])
+fn pairs(body: &[u8], groups: &[u64; bodies::MOST_NODES], out: &mut [u64; CELLS])
     requires { ⌜ Good 64 (nodes (now body)) ⌝ }
     requires { ⌜ Groups (nodes (now body)) (now groups) ⌝ }
     requires { ⌜ (0 < nodes (now body) .count) × (nodes (now body) .count ≤ mostNodes) ⌝ }
@@ -106,6 +106,19 @@ pub fn pairs(body: &[u8], groups: &[u64; bodies::MOST_NODES], out: &mut [u64; CE
         stamp(groups[node], out);
         node += 1;
     }
+}
+
+// Draws the tree of a good body: the group of every node, the smallest common group of each two species, and the set of all its species.
+pub fn draw(body: &[u8], each: &mut [u64; bodies::MOST_NODES], meets: &mut [u64; CELLS]) -> u64
+    requires { ⌜ Good 64 (nodes (now body)) ⌝ }
+    requires { ⌜ (0 < nodes (now body) .count) × (nodes (now body) .count ≤ mostNodes) ⌝ }
+    requires { ⌜ (length (now each) ≡ mostNodes) × (length (now meets) ≡ cells) ⌝ }
+    ensures { λ _. ⌜ Groups (nodes (now (body .entry))) (now (each .exit)) ⌝ }
+    ensures { λ r. ⌜ Drawn (treeOf (now (body .entry))) r (now (meets .exit)) ⌝ }
+{
+    groups(body, each);
+    pairs(body, each, meets);
+    each[0]
 }
 
 // Are all three species in s?

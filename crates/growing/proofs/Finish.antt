@@ -1,6 +1,6 @@
 -- What is still to be written of a node's children, and that building one of them leaves it the same. Assumes nothing.
 use mathlib.Core.Bool.{false}
-use mathlib.Core.List.{List, [], _∷_}
+use mathlib.Core.List.{List}
 use mathlib.Core.Path.{_∙_, _≡_, ap, ap₂, refl, sym}
 use Prim.Native.Nat.{_*_, _+_, _≤_, suc, ℕ}
 use native.Mathlib.Omega.{arith}
@@ -11,7 +11,7 @@ use Rattle.trees.specs.Build.{Outcome, Outcomes, choose, next, stop, stops, tre
 use Rattle.trees.specs.Trees.{leaf, node}
 use Rattle.bodies.proofs.Stores.{forest-stores, node-stores}
 use Rattle.bodies.specs.Draws.{bytesF, nodeCountF}
-use Rattle.bodies.specs.Nodes.{width, none}
+use Rattle.bodies.specs.Nodes.{innerBytes, leafBytes, width}
 use Rattle.growing.specs.Grows.{Stands}
 
 -- how it ends: the next node with what the room holds, or a set that stops
@@ -39,7 +39,7 @@ turn-stop r p at o B U e = ap (λ (b : Outcome). finish (next b r) p at o) e
 
 module _ (r : Outcomes) (x : ℕ) (w : Outcome) (at : ℕ) (o₀ : List ℕ) where
   -- all children stand behind their node
-  pub node-done : (k p m : ℕ) (o o′ : List ℕ) → o₀ ≡ sets o (width * at) (p ∷ none ∷ []) → done m o′ ≡ finish r at (suc at) o₀ → m + 1 ≤ at + 2 * k
+  pub node-done : (k p m : ℕ) (o o′ : List ℕ) → o₀ ≡ sets o (width * at) (innerBytes p) → done m o′ ≡ finish r at (suc at) o₀ → m + 1 ≤ at + 2 * k
       → Stands (choose false false x w r) k p at o o′ m
   node-done k p m o o′ e h few = go r h
     where
@@ -63,7 +63,7 @@ module _ (r : Outcomes) (x : ℕ) (w : Outcome) (at : ℕ) (o₀ : List ℕ) whe
       go (trees f) h = let z : _≡_ {A = ℕ} 0 1 = cc in absurd (omega arith)
       go (stops W) h = let q : U ≡ W = cc in ap stop (sym q)
 
-pub leaf-wrote : (R : Outcome) (k p at x : ℕ) (o o′ : List ℕ) → R ≡ tree (leaf x) → k ≡ 1 → o′ ≡ sets o (width * at) (p ∷ x ∷ []) → Stands R k p at o o′ (at + 1)
+pub leaf-wrote : (R : Outcome) (k p at x : ℕ) (o o′ : List ℕ) → R ≡ tree (leaf x) → k ≡ 1 → o′ ≡ sets o (width * at) (leafBytes p x) → Stands R k p at o o′ (at + 1)
 leaf-wrote R k p at x o o′ e one h = record { drawn = leaf x; is = e; next = refl; body = h; few = omega arith }
 
 pub kept : (o o′ vs : List ℕ) (i n : ℕ) → o′ ≡ sets o i vs → length o ≡ n → length o′ ≡ n

@@ -16,7 +16,7 @@ use Rattle.sets.specs.Sets.{Lowest, Rest, has, size}
 use Rattle.sets.specs.Species.{members}
 use Rattle.trees.specs.Build.{ending, leafEach, tree, trees}
 use Rattle.trees.specs.Trees.{leaf}
-use Rattle.bodies.specs.Nodes.{longest, none, width}
+use Rattle.bodies.specs.Nodes.{innerBytes, leafBytes, longest, width}
 use Rattle.growing.specs.Grows.{Stands}
 use Rattle.growing.proofs.Finish.{End, done, finish, kept, leaf-wrote, node-done, turn}
 
@@ -41,20 +41,20 @@ module _ (s at : ℕ) (o₀ : List ℕ) where
   }
 
   -- the lowest species is written
-  pub spread-step : (left x left′ m : ℕ) (o o′ : List ℕ) → left ≢ 0 → Spreading s at o₀ left m o → Lowest left x → o′ ≡ sets o (width * m) (at ∷ x ∷ [])
+  pub spread-step : (left x left′ m : ℕ) (o o′ : List ℕ) → left ≢ 0 → Spreading s at o₀ left m o → Lowest left x → o′ ≡ sets o (width * m) (leafBytes at x)
       → left′ < 2 ^ 64 → Rest left left′ → Spreading s at o₀ left′ (m + 1) o′
   spread-step left x left′ m o o′ n w l e h r =
       let walk : members 64 (has left) ≡ x ∷ members 64 (has left′) = members-walk left (w .fits) n ∙ ap₂ (λ (y k : ℕ). y ∷ members 64 (has k)) (sym (l .is)) (sym (r .is)) in
       record {
         fits = h;
-        long = kept o o′ (at ∷ x ∷ []) (width * m) longest e (w .long);
+        long = kept o o′ (leafBytes at x) (width * m) longest e (w .long);
         room = omega (arith, w .room, r .fewer n);
         whole = sym (turn (trees (leafEach (members 64 (has left′)))) 1 at m (m + 1) o o′ (tree (leaf x)) (leaf-wrote (tree (leaf x)) 1 at m x o o′ refl refl e))
             ∙ sym (ap (λ (k : List ℕ). leaves at k m o) walk) ∙ w .whole;
       }
 
   -- all are written, behind their node
-  pub spread-end : (left p m : ℕ) (o o′ : List ℕ) → left ≡ 0 → 1 < size s → Spreading s at o₀ left m o′ → o₀ ≡ sets o (width * at) (p ∷ none ∷ [])
+  pub spread-end : (left p m : ℕ) (o o′ : List ℕ) → left ≡ 0 → 1 < size s → Spreading s at o₀ left m o′ → o₀ ≡ sets o (width * at) (innerBytes p)
       → Stands (ending true 64 (has s)) (size s) p at o o′ m
   spread-end left p m o o′ z h w e =
       let d : done m o′ ≡ leaves at [] m o′ = ap (λ (j : ℕ). done j o′) (sym (add-zero m)) in

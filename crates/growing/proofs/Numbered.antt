@@ -13,7 +13,7 @@ use Rattle.sets.proofs.Digits.{apart, has-lt}
 use Rattle.sets.proofs.Least.{lowest-in}
 use Rattle.sets.proofs.Members.{Apart, Every, anyOf, members-one}
 use Rattle.sets.proofs.Ordered.{lowest-members}
-use Rattle.sets.proofs.Sizes.{size-apart, size-empty, size-members}
+use Rattle.sets.proofs.Sizes.{not-empty, size-apart, size-empty, size-members}
 use Rattle.sets.proofs.Tests.{has-below, has-false, has-number, number-empty, number-has, number-is, number-lt, number-union, true-has}
 use Rattle.sets.specs.Sets.{Lacks, Has, has, lowest, number, size}
 use Rattle.sets.specs.Species.{Below, Species, members}
@@ -34,9 +34,6 @@ use Rattle.splitting.specs.Split.{partsOf}
 abbrev pub total : List ℕ → ℕ
 total [] = 0
 total (p ∷ l) = size p + total l
-
-pub not-empty : (s : ℕ) → 0 < size s → s ≢ 0
-not-empty s h e = omega (arith, ap size e, size-empty)
 
 size-number : (P : Species) → Below 64 P → size (number 64 P) ≡ length (members 64 P)
 size-number P bd = size-members 64 (number 64 P) (number-lt 64 P) ∙ ap (λ (Q : Species). length (members 64 Q)) (number-is 64 P bd)

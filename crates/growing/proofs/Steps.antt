@@ -13,7 +13,7 @@ use Rattle.trees.specs.Build.{Outcome, buildBy, ending, next, stop}
 use Rattle.trees.specs.Combinations.{C}
 use Rattle.trees.specs.Triplets.{Triplets}
 use Rattle.trees.specs.Visits.{looked, stopped}
-use Rattle.bodies.specs.Nodes.{width, mostNodes, none, longest}
+use Rattle.bodies.specs.Nodes.{innerBytes, longest, mostNodes, width}
 use Rattle.splitting.specs.Split.{partsOf}
 use Rattle.growing.specs.Grows.{Stands}
 use Rattle.growing.proofs.Finish.{End, done, finish, node-done, node-stop, turn, turn-stop}
@@ -131,7 +131,7 @@ module _ (v : Bool) (E : Triplets) (s : ℕ) (w : Splits E s) (at : ℕ) (o₀ :
     whole = ap (λ (m : ℕ). todo v E at (partsOf E s) m o₀) (add-one at);
   }
 
-  pub going-end : (k m p : ℕ) (o o′ : List ℕ) → length (partsOf E s) ≤ k → Going v E s at o₀ k m o′ → o₀ ≡ sets o (width * at) (p ∷ none ∷ [])
+  pub going-end : (k m p : ℕ) (o o′ : List ℕ) → length (partsOf E s) ≤ k → Going v E s at o₀ k m o′ → o₀ ≡ sets o (width * at) (innerBytes p)
       → Stands (buildBy v E 64 (has s)) (size s) p at o o′ m
   going-end k m p o o′ h g e =
       let q : k ≡ length (partsOf E s) = omega (arith, g .within) in

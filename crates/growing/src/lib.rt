@@ -35,11 +35,11 @@ fn spread(s: u64, room: &mut [u8], at: usize, parent: u8) -> usize
     requires { ⌜ (1 < size s) × (at + 2 * size s ≤ mostNodes + 1) × (length (now room) ≡ longest) ⌝ }
     ensures { λ r. ⌜ Stands (ending true 64 (has s)) (size s) parent at (now (room .entry)) (now (room .exit)) r ⌝ }
 {
-    bodies::put_node(room, at, parent, bodies::NONE);
+    bodies::put_inner(room, at, parent);
     let mut next = at + 1;
     let mut left = s;
     while left != 0 {
-        bodies::put_node(room, next, at as u8, sets::lowest(left) as u8);
+        bodies::put_leaf(room, next, at as u8, sets::lowest(left) as u8);
         next += 1;
         left = sets::rest(left);
     }
@@ -66,7 +66,7 @@ pub fn grow(
     ensures { λ r. ⌜ branchLooked r ≡ looked veto (entered (now (t .entry))) 64 (has s) ⌝ }
 {
     if sets::size(s) == 1 {
-        bodies::put_node(room, at, parent, sets::lowest(s) as u8);
+        bodies::put_leaf(room, at, parent, sets::lowest(s) as u8);
         return Branch::Next(at + 1, 0);
     }
     let parted = splitting::split(t, s, waiting);
@@ -77,7 +77,7 @@ pub fn grow(
         }
         return Branch::Stopped(s, parted.looked);
     }
-    bodies::put_node(room, at, parent, bodies::NONE);
+    bodies::put_inner(room, at, parent);
     let gap = free - count;
     lift(waiting, count, gap);
     let mut next = at + 1;

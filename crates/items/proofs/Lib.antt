@@ -1,2 +1,2 @@
--- The law of the items.
-mod Items
+-- The laws of the items.
+pub mod Items

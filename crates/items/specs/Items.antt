@@ -2,7 +2,7 @@
 use mathlib.Core.List.{List, [], _∷_, _++_}
 use Prim.Native.Nat.{ℕ, zero, suc, _+_, _*_, _/_}
 use lib.ListN.{getD, length}
-use Rattle.calls.specs.Numbers.{eightAt}
+use Rattle.shapes.specs.Numbers.{eightAt}
 
 -- record i of the bytes b
 abbrev pub recordAt : List ℕ → ℕ → List ℕ

@@ -39,7 +39,7 @@ pub fn enter_line(
     records: &mut [[u8; 3]],
     t: &mut [u8],
 ) -> usize
-    requires { ⌜ (at + 4 * length (now t) + 100 ≤ length (now out)) × (length (now b) / 3 ≤ length (now records)) ⌝ }
+    requires { ⌜ length (now b) / 3 ≤ length (now records) ⌝ }
     ensures { λ r. ⌜ Writes (now (out .entry)) at (enterLine n (recordsOf (now (b .entry))) (now (t .entry))) (now (out .exit)) r ⌝ }
 {
     let m = gather(b, records);
@@ -54,7 +54,7 @@ fn gather_sets(b: &[u8], list: &mut [u64]) -> usize
     let m = b.len() / 8;
     let mut i = 0;
     while i < m {
-        list[i] = calls::eight(b, 8 * i) as u64;
+        list[i] = shapes::eight(b, 8 * i) as u64;
         i += 1;
     }
     m
@@ -71,7 +71,7 @@ pub fn loosen_line(
     b: &[u8],
     list: &mut [u64],
 ) -> usize
-    requires { ⌜ (at + 4 * length (now room) + 21 * (length (now b) / 8) + 100 ≤ length (now out)) × (length (now b) / 8 ≤ length (now list)) ⌝ }
+    requires { ⌜ length (now b) / 8 ≤ length (now list) ⌝ }
     ensures { λ r. ⌜ Writes (now (out .entry)) at (loosenLine n (now (t .entry)) (now (body .entry)) (now (room .entry)) (setsOf (now (b .entry)))) (now (out .exit)) r ⌝ }
 {
     let m = gather_sets(b, list);

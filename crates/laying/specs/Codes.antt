@@ -4,8 +4,9 @@ use mathlib.Core.Path.{_≡_}
 use Prim.Native.Nat.{ℕ}
 use Rattle.bodies.specs.declared.Fault.{Fault}
 use Rattle.bodies.specs.declared.Fault.the-variants.{BadParent, BadSpecies, SeenBefore, OnlyChild}
-use Rattle.answers.specs.Answers.{Told}
-use Rattle.replies.specs.Plain.{Item, plain-number, broken-rule, Plain, plain}
+use Rattle.refusals.specs.Told.{Told, unnamed}
+use Rattle.refusals.specs.declared.Rule.{Rule}
+use Rattle.refusals.specs.declared.Rule.the-variants.{Broken, Kept}
 
 -- which fault, 1 to 4 in document 01's order, and its own data: "bad parent (that parent), bad species (it), species seen before (the earlier
 -- node), or only child", which has none and gives 0
@@ -15,13 +16,10 @@ faultCode (BadSpecies s) = 2 ∷ s ∷ []
 faultCode (SeenBefore i) = 3 ∷ i ∷ []
 faultCode OnlyChild = 4 ∷ 0 ∷ []
 
-abbrev pub code : Item → List ℕ
-code (plain-number x) = x ∷ []
-code (broken-rule f) = faultCode f
-
-abbrev pub codes : List Item → List ℕ
-codes [] = []
-codes (i ∷ l) = code i ++ codes l
+-- the rule that is broken, where one is
+abbrev pub ruleCode : Rule → List ℕ
+ruleCode Kept = []
+ruleCode (Broken f) = faultCode f
 
 -- o with the numbers laid over it from place 0 on, as far as there is room; its length is kept
 abbrev pub laid : List ℕ → List ℕ → List ℕ
@@ -29,11 +27,11 @@ laid [] o = o
 laid (v ∷ vs) [] = []
 laid (v ∷ vs) (x ∷ o) = v ∷ laid vs o
 
--- p was laid down: its number is the result r, and its items are laid over o, which gives o'
-pub record Lays (p : Plain) (o : List ℕ) (r : ℕ) (o' : List ℕ) : Type 0 where
-  pub is : r ≡ p .number
-  pub holds : o' ≡ laid (codes (p .items)) o
+-- a number was answered with the numbers vs: it is the result r, and they are laid over o, which gives o'
+pub record Lays (k : ℕ) (vs : List ℕ) (o : List ℕ) (r : ℕ) (o' : List ℕ) : Type 0 where
+  pub is : r ≡ k
+  pub holds : o' ≡ laid vs o
 
--- what is told was handed back
+-- what is told was handed back: the values, and behind them the rule that is broken
 abbrev pub Handed : Told → List ℕ → ℕ → List ℕ → Type 0
-Handed t = Lays (plain t)
+Handed t = Lays (t .number) (unnamed (t .values) ++ ruleCode (t .rule))

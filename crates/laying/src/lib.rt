@@ -1,9 +1,9 @@
 // A reply laid into lent numbers: its values one after the other, as far as there is room.
 ghost use mathlib.Core.Path.{_≡_};
-ghost use mathlib.Core.List.{[], _∷_};
+ghost use mathlib.Core.List.{[], _∷_, _++_};
 ghost use lib.ListN.{set};
-ghost use Rattle.replies.specs.Replied.{replied};
-ghost use Rattle.laying.specs.Codes.{faultCode, Lays};
+ghost use Rattle.refusals.specs.Replies.{valuesOf};
+ghost use Rattle.laying.specs.Codes.{faultCode, ruleCode, Lays};
 
 // A fault by two numbers.
 struct FaultCode {
@@ -37,35 +37,25 @@ pub fn put(values: &mut [usize], i: usize, x: usize)
     }
 }
 
-// Lays down a reply: writes its values, and answers its number.
-pub fn lay(s: replies::Reply, values: &mut [usize]) -> usize
-    ensures { λ r. ⌜ Lays (replied s) (now (values .entry)) r (now (values .exit)) ⌝ }
+// Lays down a reply: writes its values, and behind them the rule that is broken, and answers its number.
+pub fn lay(s: refusals::Reply, values: &mut [usize]) -> usize
+    ensures { λ r. ⌜ Lays (s .number) (valuesOf s ++ ruleCode (s .rule)) (now (values .entry)) r (now (values .exit)) ⌝ }
 {
-    match s {
-        replies::Reply::Bare(k) => k,
-        replies::Reply::One(k, x) => {
-            put(values, 0, x);
-            k
-        }
-        replies::Reply::Two(k, x, y) => {
-            put(values, 0, x);
-            put(values, 1, y);
-            k
-        }
-        replies::Reply::Three(k, x, y, z) => {
-            put(values, 0, x);
-            put(values, 1, y);
-            put(values, 2, z);
-            k
-        }
-        replies::Reply::Broken(x) => {
-            let fault = x.fault;
-            let f = fault_code(fault);
-            put(values, 0, x.tree);
-            put(values, 1, x.node);
-            put(values, 2, f.kind);
-            put(values, 3, f.data);
-            6
+    let count = s.count;
+    let held = s.values;
+    let mut i = 0;
+    while i < 4 && i < count {
+        put(values, i, held[i]);
+        i += 1;
+    }
+    let rule = s.rule;
+    match rule {
+        refusals::Rule::Kept => s.number,
+        refusals::Rule::Broken(x) => {
+            let f = fault_code(x);
+            put(values, i, f.kind);
+            put(values, i + 1, f.data);
+            s.number
         }
     }
 }

@@ -13,7 +13,7 @@ use Rattle.collections.specs.Layout.{bodyAt, species, start, trees}
 use Rattle.tables.proofs.Adding.{adds-both, adds-nothing}
 use Rattle.tables.specs.Adds.{Adds}
 use Rattle.tables.specs.Filled.{byteFor, saidBy, treeByte}
-use Rattle.tables.specs.Index.{C}
+use Rattle.triples.specs.Index.{C}
 use Rattle.listing.specs.Lists.{saidUpTo}
 
 module _ (b : List ℕ) (r : Collection b) where

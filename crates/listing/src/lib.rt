@@ -5,7 +5,7 @@ ghost use Prim.Native.Nat.{suc, _+_, _<_, _≤_};
 ghost use lib.ListN.{length};
 ghost use Rattle.tables.specs.Adds.{Adds};
 ghost use Rattle.tables.specs.Filled.{treeByte};
-ghost use Rattle.tables.specs.Index.{C};
+ghost use Rattle.triples.specs.Index.{C};
 ghost use Rattle.bodies.specs.Nodes.{Good, nodes, mostNodes, badLength};
 ghost use Rattle.bodies.specs.Draws.{treeOf};
 ghost use Rattle.groups.specs.Groups.{cells};
@@ -65,9 +65,7 @@ fn tree(
     ensures { λ _. ⌜ (length (now (groups .exit)) ≡ mostNodes) × (length (now (meets .exit)) ≡ cells) ⌝ }
     ensures { λ _. ⌜ (length (now (t .exit)) ≡ C n 3) × Adds (treeByte (treeOf (now (body .entry)))) 0 (C n 3) (now (t .entry)) (now (t .exit)) ⌝ }
 {
-    groups::groups(body, groups);
-    groups::pairs(body, groups, meets);
-    let whole = groups[0];
+    let whole = groups::draw(body, groups, meets);
     let mut c = 0;
     while c < n {
         level(whole, meets, c, t);
@@ -102,7 +100,7 @@ pub fn list(b: &[u8], t: &mut [u8]) -> collections::Answer
     match read {
         collections::Answer::Done(c) => {
             if !tables::fits(t, c.n) {
-                return collections::Answer::Refused(answers::Refusal::BadTable);
+                return collections::Answer::Refused(refusals::Refusal::BadTable);
             }
             fill(b, c.n, c.trees, t);
             collections::Answer::Done(c)

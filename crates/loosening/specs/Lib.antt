@@ -1,4 +1,2 @@
--- Loosening a tree: definitions only. What is proved of them stands in `proofs/`.
+-- Loosening a tree: definitions only.
 pub mod Loosens
-pub mod Without
-pub mod Drafts

@@ -8,7 +8,7 @@ ghost use lib.ListN.{length};
 ghost use Rattle.writing.specs.Writes.{Writes};
 ghost use Rattle.calls.specs.Calls.{fieldsOf};
 ghost use Rattle.choosing.specs.Room.{Room};
-ghost use Rattle.making.specs.Made.{Waits, madeLine};
+ghost use Rattle.making.specs.Made.{Waits, longestLine, madeLine};
 
 // Writes the line of a call: of one that has not begun none, and `cut` of one that is not whole.
 fn line(
@@ -22,7 +22,7 @@ fn line(
     out: &mut [u8],
     at: usize,
 ) -> usize
-    requires { ⌜ Room at (now first) (now second) (now third) (now fourth) (now records) (now list) (now out) ⌝ }
+    requires { ⌜ Room (now first) (now fourth) (now records) (now list) ⌝ }
     ensures { λ r. ⌜ Writes (now (out .entry)) at (madeLine c (now (first .entry) ∷ now (second .entry) ∷ now (third .entry) ∷ now (fourth .entry) ∷ [])) (now (out .exit)) r ⌝ }
 {
     let n = c.numbers[0];
@@ -47,13 +47,6 @@ fn line(
         out,
         at,
     )
-}
-
-// The larger one of two numbers.
-fn larger(a: usize, b: usize) -> usize
-    ensures { λ r. ⌜ (a ≤ r) × (b ≤ r) × ((r ≡ a) ⊎ (r ≡ b)) ⌝ }
-{
-    if a < b { b } else { a }
 }
 
 // Prints the text that waits, where the next line may not fit behind it.
@@ -81,15 +74,14 @@ pub fn make(
     len: usize,
 ) -> usize
     requires { ⌜ (c .first ≤ length (now first)) × (c .second ≤ length (now second)) × (c .third ≤ length (now third)) × (c .fourth ≤ length (now fourth)) × (len ≤ length (now out)) ⌝ }
-    requires { ⌜ Room 0 (now first) (now second) (now third) (now fourth) (now records) (now list) (now out) ⌝ }
+    requires { ⌜ Room (now first) (now fourth) (now records) (now list) × (longestLine (length (now second)) (length (now third)) (length (now fourth)) ≤ length (now out)) ⌝ }
     ensures { λ r. ⌜ Waits (now (out .entry)) len (madeLine c (fieldsOf c (now (first .entry)) (now (second .entry)) (now (third .entry)) (now (fourth .entry)))) (now (out .exit)) r ⌝ }
 {
     let i = c.first;
     let j = c.second;
     let k = c.third;
     let l = c.fourth;
-    let longest = larger(4 * j + 100, 4 * k + 21 * (l / 8) + 100);
-    let at = make_room(out, len, longest);
+    let at = make_room(out, len, 21 * (j + k + l / 8) + 150);
     line(
         c,
         &first[0..i],

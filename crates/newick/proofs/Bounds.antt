@@ -10,7 +10,7 @@ use lib.ListN.{length}
 use Rattle.sets.proofs.Bools.{and-l, and-r, or-none}
 use Rattle.trees.specs.Trees.{Forest, Tree}
 use Rattle.bodies.specs.Draws.{bytes, nodeCount}
-use Rattle.bodies.specs.Nodes.{none}
+use Rattle.bodies.specs.Nodes.{innerBytes, mostNodes}
 use Rattle.newick.specs.Form.{Form, Further, Subtrees, Number, Subtree, bracket, digit, last-one, no-further, nought, one-further, one-more, other, lone, text}
 use Rattle.newick.specs.Scan.{State, act, follow, taken, number, pastLimit, scan, scanFrom, start, state, halt, innermost}
 use Rattle.newick.specs.Signs.{sign}
@@ -32,9 +32,9 @@ low s c w b h = by (pastLimit s (sign c)) refl h
     by false e x = e
 
 module _ (ps : List ℕ) (n : ℕ) (d b : List ℕ) where
-  first-low : (c : ℕ) (w : List ℕ) → So (digit c) → n ≤ 127 → Taken (state start ps n d) (c ∷ w) b → n < 127
+  first-low : (c : ℕ) (w : List ℕ) → So (digit c) → n ≤ mostNodes → Taken (state start ps n d) (c ∷ w) b → n < mostNodes
   unfolding pastLimit
-  first-low c w t l h = let e = eqb-false n 127 (sym (ap (pastLimit (state start ps n d)) (digit-sign c t)) ∙ low _ c w b h) in omega arith
+  first-low c w t l h = let e = eqb-false n mostNodes (sym (ap (pastLimit (state start ps n d)) (digit-sign c t)) ∙ low _ c w b h) in omega arith
 
   further-bound : {x v : ℕ} {w r : List ℕ} → Further x v w r → 0 < x → x ≤ 254 → Taken (state (number x) ps n d) w b → v ≤ 254
   unfolding pastLimit
@@ -44,7 +44,7 @@ module _ (ps : List ℕ) (n : ℕ) (d b : List ℕ) where
       further-bound g (omega arith) (ltb-false 254 (10 * x + (c - 48)) (sym (ap (pastLimit (state (number x) ps n d)) (digit-sign c t)) ∙ o))
       (sym (on true _ _ c w (λ e. o) (number-digit ps n d x c p t)) ∙ h)
 
-  number-bound : {v : ℕ} {w r : List ℕ} → Number v w r → n ≤ 127 → Taken (state start ps n d) w b → (n < 127) × (v ≤ 254)
+  number-bound : {v : ℕ} {w r : List ℕ} → Number v w r → n ≤ mostNodes → Taken (state start ps n d) w b → (n < mostNodes) × (v ≤ 254)
   number-bound (nought {r}) l h = (first-low 48 r refl l h, omega arith)
   number-bound (other {v} {b = c} {w} {r} t z g) l h =
       let lo : 48 ≤ c = leb-true 48 c (and-l (leb 48 c) (leb c 57) t) in
@@ -53,28 +53,28 @@ module _ (ps : List ℕ) (n : ℕ) (d b : List ℕ) where
       let o = low (state start ps n d) c w b h in
       (first-low c w t l h, further-bound g (omega arith) (omega arith) (sym (on true _ _ c w (λ e. o) (start-digit ps n d c t)) ∙ h))
 
-  open-bound : (w : List ℕ) → length ps ≤ 63 → n ≤ 127 → Taken (state start ps n d) (40 ∷ w) b
-      → (length ps < 63) × (n < 127) × Taken (state start (n ∷ ps) (suc n) (d ++ (innermost ps ∷ none ∷ []))) w b
+  open-bound : (w : List ℕ) → length ps ≤ 63 → n ≤ mostNodes → Taken (state start ps n d) (40 ∷ w) b
+      → (length ps < 63) × (n < mostNodes) × Taken (state start (n ∷ ps) (suc n) (d ++ innerBytes (innermost ps))) w b
   unfolding act pastLimit sign
   open-bound w l m h =
-      let o = or-none (eqb (length ps) 63) (eqb n 127) (low _ 40 w b h) in
+      let o = or-none (eqb (length ps) 63) (eqb n mostNodes) (low _ 40 w b h) in
       let p = eqb-false (length ps) 63 (o .0) in
-      let q = eqb-false n 127 (o .1) in
+      let q = eqb-false n mostNodes (o .1) in
       (omega arith, omega arith, sym (on true _ _ 40 w (λ e. low _ 40 w b h) refl) ∙ h)
 
 mutual
   unfolding act pastLimit sign
 
-  subtree-bound : {t : Tree} {w r : List ℕ} → Subtree t w r → (ps : List ℕ) (n : ℕ) (d b : List ℕ) → length ps ≤ 63 → n ≤ 127 → Taken (state start ps n d) w b → Room (length ps) n t
+  subtree-bound : {t : Tree} {w r : List ℕ} → Subtree t w r → (ps : List ℕ) (n : ℕ) (d b : List ℕ) → length ps ≤ 63 → n ≤ mostNodes → Taken (state start ps n d) w b → Room (length ps) n t
   subtree-bound (lone a m g) ps n d b l p h =
       let k = number-bound ps n d b m p (sym (skips true _ refl refl a) ∙ h) in
       (omega arith, omega (arith, k .0), k .1)
   subtree-bound (bracket {f} {w} {u} a m g) ps n d b l p h =
       let k = open-bound ps n d b u l p (sym (skips true _ refl refl a) ∙ h) in
-      let j = listed-bound m n ps (suc n) (d ++ (innermost ps ∷ none ∷ [])) b (omega (arith, k .0)) (omega (arith, k .1)) (k .2) in
+      let j = listed-bound m n ps (suc n) (d ++ innerBytes (innermost ps)) b (omega (arith, k .0)) (omega (arith, k .1)) (k .2) in
       (omega (arith, j .0), omega (arith, j .1), j .2)
 
-  listed-bound : {f : Forest} {w r : List ℕ} → Subtrees f w r → (p : ℕ) (ps : List ℕ) (n : ℕ) (d b : List ℕ) → suc (length ps) ≤ 63 → n ≤ 127 → Taken (state start (p ∷ ps) n d) w b → RoomF (length ps) n f
+  listed-bound : {f : Forest} {w r : List ℕ} → Subtrees f w r → (p : ℕ) (ps : List ℕ) (n : ℕ) (d b : List ℕ) → suc (length ps) ≤ 63 → n ≤ mostNodes → Taken (state start (p ∷ ps) n d) w b → RoomF (length ps) n f
   listed-bound (last-one m a) p ps n d b l q h =
       let k = subtree-bound m (p ∷ ps) n d b l q h in
       (omega (arith, k .0), omega (arith, k .1), omega (arith, k .2))

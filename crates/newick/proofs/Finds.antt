@@ -8,7 +8,7 @@ use native.Mathlib.Omega.{arith}
 use lib.ListN.{length}
 use Rattle.trees.specs.Trees.{Forest, Tree, cons, leaf, nil, node}
 use Rattle.bodies.specs.Draws.{bodyOf, bytes, bytesF, nodeCount, nodeCountF}
-use Rattle.bodies.specs.Nodes.{none}
+use Rattle.bodies.specs.Nodes.{innerBytes, none}
 use Rattle.newick.specs.Form.{Blanks, BranchLength, Digits, Form, Subtrees, Subtree, blank, bracket, digit, last-one, no-blank, no-length, one-blank, one-more, parted-length, lone, text, whole-length}
 use Rattle.newick.specs.Scan.{Mode, act, behind, due, ended, outset, taken, number, scanFrom, start, state, innermost}
 use Rattle.newick.specs.Signs.{Sign, closing, colon, comma, figure, foreign, opening, point, semicolon, sign, space}
@@ -95,7 +95,7 @@ module _ (n : ℕ) (d b : List ℕ) where
 -- how a subtree begins
 data Begun (ps : List ℕ) (n : ℕ) (d b w : List ℕ) : Type 0 where
   by-digit : (c : ℕ) (u : List ℕ) → Blanks w (c ∷ u) → So (digit c) → length u < length w → Taken (state (number (c - 48)) ps n d) u b → Begun ps n d b w
-  by-opening : (u : List ℕ) → Blanks w (40 ∷ u) → length u < length w → Taken (state start (n ∷ ps) (suc n) (d ++ (innermost ps ∷ none ∷ []))) u b → Begun ps n d b w
+  by-opening : (u : List ℕ) → Blanks w (40 ∷ u) → length u < length w → Taken (state start (n ∷ ps) (suc n) (d ++ innerBytes (innermost ps))) u b → Begun ps n d b w
 
 blank-begun : {ps : List ℕ} {n : ℕ} {d b w : List ℕ} (c : ℕ) → So (blank c) → Begun ps n d b w → Begun ps n d b (c ∷ w)
 blank-begun c s (by-digit e u k t h g) = by-digit e u (one-blank s k) t (omega arith) g
@@ -145,15 +145,15 @@ leaf-found ps n d b w c u k t h g =
     record { tree = leaf (x .0); rest = z .0; is = lone k (x .2) (z .1); shorter = omega (arith, x .3, z .2); then = same-closed (omega arith) refl (z .3) }
 
 -- a subtree that is a bracket
-node-found : (ps : List ℕ) (n : ℕ) (d b w u : List ℕ) → Blanks w (40 ∷ u) → length u < length w → FoundList n ps (suc n) (d ++ (innermost ps ∷ none ∷ [])) b u → Found ps n d b w
+node-found : (ps : List ℕ) (n : ℕ) (d b w u : List ℕ) → Blanks w (40 ∷ u) → length u < length w → FoundList n ps (suc n) (d ++ innerBytes (innermost ps)) b u → Found ps n d b w
 node-found ps n d b w u k h x =
-    let z = branch-found (suc n + nodeCountF (x .forest)) ((d ++ (innermost ps ∷ none ∷ [])) ++ bytesF (x .forest) n (suc n)) b (x .rest) ps (x .then) in
+    let z = branch-found (suc n + nodeCountF (x .forest)) ((d ++ innerBytes (innermost ps)) ++ bytesF (x .forest) n (suc n)) b (x .rest) ps (x .then) in
     record {
       tree = node (x .forest);
       rest = z .0;
       is = bracket k (x .is) (z .1);
       shorter = omega (arith, x .shorter, z .2);
-      then = same-closed (omega arith) (append-assoc d (innermost ps ∷ none ∷ []) (bytesF (x .forest) n (suc n))) (z .3);
+      then = same-closed (omega arith) (append-assoc d (innerBytes (innermost ps)) (bytesF (x .forest) n (suc n))) (z .3);
     }
 
 -- a list that goes on or ends behind its first subtree
@@ -181,7 +181,7 @@ list-goes p ps n d b w x f (by-comma q qs u e k h g) =
 list-goes p ps n d b w x f (by-semicolon u e k g) = absurd (let z : _≡_ {A = ℕ} 0 1 = cc in omega arith)
 
 begun-on : (ps : List ℕ) (n : ℕ) (d b w : List ℕ) → Begun ps n d b w
-    → ((u : List ℕ) → length u < length w → Taken (state start (n ∷ ps) (suc n) (d ++ (innermost ps ∷ none ∷ []))) u b → FoundList n ps (suc n) (d ++ (innermost ps ∷ none ∷ [])) b u)
+    → ((u : List ℕ) → length u < length w → Taken (state start (n ∷ ps) (suc n) (d ++ innerBytes (innermost ps))) u b → FoundList n ps (suc n) (d ++ innerBytes (innermost ps)) b u)
     → Found ps n d b w
 begun-on ps n d b w (by-digit c u k t h g) f = leaf-found ps n d b w c u k t h g
 begun-on ps n d b w (by-opening u k h g) f = node-found ps n d b w u k h (f u h g)
@@ -190,7 +190,7 @@ begun-on ps n d b w (by-opening u k h g) f = node-found ps n d b w u k h (f u h 
 mutual
   subtree-found : (f : ℕ) (ps : List ℕ) (n : ℕ) (d b w : List ℕ) → 2 * length w < f → Taken (state start ps n d) w b → Found ps n d b w
   subtree-found zero ps n d b w l h = absurd (omega arith)
-  subtree-found (suc f) ps n d b w l h = begun-on ps n d b w (begun-found ps n d b w h) (λ u q g. listed-found f n ps (suc n) (d ++ (innermost ps ∷ none ∷ [])) b u (omega arith) g)
+  subtree-found (suc f) ps n d b w l h = begun-on ps n d b w (begun-found ps n d b w h) (λ u q g. listed-found f n ps (suc n) (d ++ innerBytes (innermost ps)) b u (omega arith) g)
 
   listed-found : (f : ℕ) (p : ℕ) (ps : List ℕ) (n : ℕ) (d b w : List ℕ) → 2 * length w + 1 < f → Taken (state start (p ∷ ps) n d) w b → FoundList p ps n d b w
   listed-found zero p ps n d b w l h = absurd (omega arith)

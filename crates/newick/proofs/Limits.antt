@@ -9,6 +9,7 @@ use borrow.Author.Tests.{eq-eqb, eqb-true, leb-true, lt-ltb, ltb-true}
 use lib.Dec.{eqb, leb}
 use lib.ListN.{length}
 use Rattle.sets.proofs.Bools.{and-r, or-case, or-l, or-r}
+use Rattle.bodies.specs.Nodes.{mostNodes}
 use Rattle.newick.specs.Form.{digit}
 use Rattle.newick.specs.Place.{Spot, nodeBegins, blanked, elsewhere, figured, fresh, in-number, onward}
 use Rattle.newick.specs.Scan.{State, act, behind, due, ended, go, number, pastLimit, parted, pointed, start, state, halt, whole}
@@ -19,13 +20,13 @@ use Rattle.newick.proofs.Onwards.{Onward, countOf, depthOf, in-by, out-
 -- the state keeps the limits
 pub record Fits (s : State) : Type 0 where
   pub depth : depthOf s ≤ 63
-  pub count : countOf s ≤ 127
+  pub count : countOf s ≤ mostNodes
   pub number : (v : ℕ) → spotOf s ≡ in-number v → v ≤ 254
 
 -- one sign on, a limit is passed
 pub data PassesLimit (s : State) (g : Sign) : Type 0 where
   too-deep : 63 + out-by g < depthOf s + in-by g → PassesLimit s g
-  too-many : 127 < countOf s + nodeBegins (spotOf s) g → PassesLimit s g
+  too-many : mostNodes < countOf s + nodeBegins (spotOf s) g → PassesLimit s g
   too-large : (v : ℕ) → onward (spotOf s) g ≡ in-number v → 254 < v → PassesLimit s g
 
 no : {A : Type 0} → false ≡ true → A
@@ -34,8 +35,8 @@ no e = absurd (false≢true e)
 start-over : (ps : List ℕ) (n : ℕ) (d : List ℕ) (g : Sign) → pastLimit (state start ps n d) g ≡ true → PassesLimit (state start ps n d) g
 unfolding pastLimit
 start-over ps n d space h = no h
-start-over ps n d (figure x) h = let e = eqb-true n 127 h in too-many (omega arith)
-start-over ps n d opening h = or-case (eqb (length ps) 63) (eqb n 127) h (λ u. let e = eqb-true (length ps) 63 u in too-deep (omega arith)) (λ u. let e = eqb-true n 127 u in too-many (omega arith))
+start-over ps n d (figure x) h = let e = eqb-true n mostNodes h in too-many (omega arith)
+start-over ps n d opening h = or-case (eqb (length ps) 63) (eqb n mostNodes) h (λ u. let e = eqb-true (length ps) 63 u in too-deep (omega arith)) (λ u. let e = eqb-true n mostNodes u in too-many (omega arith))
 start-over ps n d closing h = no h
 start-over ps n d comma h = no h
 start-over ps n d colon h = no h
@@ -83,7 +84,7 @@ Refused s g = (pastLimit s g ≡ true) ⊎ (act s g ≡ halt)
 
 deep-refused : (s : State) → depthOf s ≡ 63 → Refused s opening
 unfolding pastLimit act
-deep-refused (state start ps n d) e = inl (or-l (eqb (length ps) 63) (eqb n 127) (eq-eqb (length ps) 63 e))
+deep-refused (state start ps n d) e = inl (or-l (eqb (length ps) 63) (eqb n mostNodes) (eq-eqb (length ps) 63 e))
 deep-refused (state (number v) ps n d) e = inr refl
 deep-refused (state (behind l) ps n d) e = inr refl
 deep-refused (state due ps n d) e = inr refl
@@ -103,11 +104,11 @@ deep-by s point f h = absurd (omega arith)
 deep-by s semicolon f h = absurd (omega arith)
 deep-by s foreign f h = absurd (omega arith)
 
-many-start : (ps : List ℕ) (n : ℕ) (d : List ℕ) (g : Sign) → n ≤ 127 → 127 < n + nodeBegins fresh g → Refused (state start ps n d) g
+many-start : (ps : List ℕ) (n : ℕ) (d : List ℕ) (g : Sign) → n ≤ mostNodes → mostNodes < n + nodeBegins fresh g → Refused (state start ps n d) g
 unfolding pastLimit
 many-start ps n d space f h = absurd (omega arith)
-many-start ps n d (figure x) f h = inl (eq-eqb n 127 (omega arith))
-many-start ps n d opening f h = inl (or-r (eqb (length ps) 63) (eqb n 127) (eq-eqb n 127 (omega arith)))
+many-start ps n d (figure x) f h = inl (eq-eqb n mostNodes (omega arith))
+many-start ps n d opening f h = inl (or-r (eqb (length ps) 63) (eqb n mostNodes) (eq-eqb n mostNodes (omega arith)))
 many-start ps n d closing f h = absurd (omega arith)
 many-start ps n d comma f h = absurd (omega arith)
 many-start ps n d colon f h = absurd (omega arith)
@@ -115,7 +116,7 @@ many-start ps n d point f h = absurd (omega arith)
 many-start ps n d semicolon f h = absurd (omega arith)
 many-start ps n d foreign f h = absurd (omega arith)
 
-many-by : (s : State) (g : Sign) → countOf s ≤ 127 → 127 < countOf s + nodeBegins (spotOf s) g → Refused s g
+many-by : (s : State) (g : Sign) → countOf s ≤ mostNodes → mostNodes < countOf s + nodeBegins (spotOf s) g → Refused s g
 many-by (state start ps n d) g f h = many-start ps n d g f h
 many-by (state (number v) ps n d) g f h = absurd (omega arith)
 many-by (state (behind l) ps n d) g f h = absurd (omega arith)
@@ -168,7 +169,7 @@ passes-refused s g f k (too-large v e h) = large-by s g v k e h
 pub fits-on : (s s′ : State) (g : Sign) → (PassesLimit s g → ⊥) → Onward (spotOf s) (depthOf s) (countOf s) g (go s′) → Fits s′
 fits-on s s′ g f o = record {
   depth = at-most 63 (depthOf s′) (λ h. f (too-deep (omega (arith, o .1))));
-  count = at-most 127 (countOf s′) (λ h. f (too-many (omega (arith, o .2))));
+  count = at-most mostNodes (countOf s′) (λ h. f (too-many (omega (arith, o .2))));
   number = λ v e. at-most 254 v (λ h. f (too-large v (sym (o .0) ∙ e) h));
 }
   where

@@ -10,6 +10,7 @@ use borrow.Author.Tests.{eqb-true, leb-true}
 use lib.Dec.{eqb, leb}
 use lib.ListN.{length}
 use Rattle.sets.proofs.Bools.{and-l, not-i}
+use Rattle.bodies.specs.Nodes.{leafBytes}
 use Rattle.newick.specs.Form.{Blanks, Digits, Further, Number, digit, last-digit, no-blank, no-further, nought, one-blank, one-digit, one-further, other}
 use Rattle.newick.specs.Scan.{State, act, atEnd, stuck, behind, due, follow, taken, number, parted, pointed, scanFrom, state, innermost, whole}
 use Rattle.newick.specs.Signs.{Sign, closing, colon, comma, figure, foreign, opening, point, semicolon, sign, space}
@@ -66,14 +67,14 @@ module _ (ps : List ℕ) (n : ℕ) (d b : List ℕ) where
 
   -- a species number once it has begun
   further-found : (w : List ℕ) (v : ℕ) → 0 < v → Taken (state (number v) ps n d) w b
-      → (x : ℕ) × (r : List ℕ) × Further v x w r × (length r ≤ length w) × Taken (state (behind true) ps (suc n) (d ++ (innermost ps ∷ x ∷ []))) r b
+      → (x : ℕ) × (r : List ℕ) × Further v x w r × (length r ≤ length w) × Taken (state (behind true) ps (suc n) (d ++ leafBytes (innermost ps) x)) r b
   further-found [] v p h = never (at-end _ b h)
   further-found (c ∷ w) v p h = by (look (sign c)) (shows c) (λ x q. further-found w x q)
     where
       by : SignCase (sign c) → Shows c (sign c)
           → ((x : ℕ) → 0 < x → Taken (state (number x) ps n d) w b
-          → (y : ℕ) × (r : List ℕ) × Further x y w r × (length r ≤ length w) × Taken (state (behind true) ps (suc n) (d ++ (innermost ps ∷ y ∷ []))) r b)
-          → (x : ℕ) × (r : List ℕ) × Further v x (c ∷ w) r × (length r ≤ suc (length w)) × Taken (state (behind true) ps (suc n) (d ++ (innermost ps ∷ x ∷ []))) r b
+          → (y : ℕ) × (r : List ℕ) × Further x y w r × (length r ≤ length w) × Taken (state (behind true) ps (suc n) (d ++ leafBytes (innermost ps) y)) r b)
+          → (x : ℕ) × (r : List ℕ) × Further v x (c ∷ w) r × (length r ≤ suc (length w)) × Taken (state (behind true) ps (suc n) (d ++ leafBytes (innermost ps) x)) r b
       by (clear k) s f = (v, c ∷ w, no-further, omega arith, sym (alike false _ _ (number-over ps n d v) refl (c ∷ w) k) ∙ h)
       by (figured x e) s f =
           let t : So (digit c) × (x ≡ c - 48) = subst (Shows c) e s in
@@ -97,13 +98,13 @@ module _ (ps : List ℕ) (n : ℕ) (d b : List ℕ) where
 
   -- a species number whose first digit is c
   pub number-found : (c : ℕ) (w : List ℕ) → So (digit c) → Taken (state (number (c - 48)) ps n d) w b
-      → (x : ℕ) × (r : List ℕ) × Number x (c ∷ w) r × (length r ≤ length w) × Taken (state (behind true) ps (suc n) (d ++ (innermost ps ∷ x ∷ []))) r b
+      → (x : ℕ) × (r : List ℕ) × Number x (c ∷ w) r × (length r ≤ length w) × Taken (state (behind true) ps (suc n) (d ++ leafBytes (innermost ps) x)) r b
   number-found c w h q = by (ℕ-discrete c 48)
     where
       lo : 48 ≤ c
       lo = leb-true 48 c (and-l (leb 48 c) (leb c 57) h)
 
-      by : Dec (c ≡ 48) → (x : ℕ) × (r : List ℕ) × Number x (c ∷ w) r × (length r ≤ length w) × Taken (state (behind true) ps (suc n) (d ++ (innermost ps ∷ x ∷ []))) r b
+      by : Dec (c ≡ 48) → (x : ℕ) × (r : List ℕ) × Number x (c ∷ w) r × (length r ≤ length w) × Taken (state (behind true) ps (suc n) (d ++ leafBytes (innermost ps) x)) r b
       by (yes e) = (
         0,
         w,

@@ -6,6 +6,7 @@ use mathlib.Core.Path.{_∙_, _≡_, ap, refl, subst, sym}
 use Prim.Native.Nat.{ℕ, zero, suc, _+_, _<_}
 use native.Mathlib.Omega.{arith}
 use lib.ListN.{length, take}
+use Rattle.bodies.specs.Nodes.{mostNodes}
 use Rattle.newick.specs.Place.{nodesBegun, closes, in-number, opens, spot}
 use Rattle.newick.specs.Scan.{Move, Scanned, State, act, atEnd, stuck, behind, due, ended, follow, go, taken, number, pastLimit, parted, pointed, scanFrom, start, state, halt, whole}
 use Rattle.newick.specs.Signs.{Sign, sign}
@@ -59,7 +60,7 @@ pub data WrongFrom (s : State) (w : List ℕ) (q : ℕ) : Type 0 where
   stray : q < length w → ((v b : List ℕ) → scanFrom false s (take (suc q) w ++ v) ≡ taken b → ⊥) → WrongFrom s w q
   early : q ≡ length w → ((b : List ℕ) → scanFrom false s w ≡ taken b → ⊥) → WrongFrom s w q
   deep : q < length w → 63 + closes (take (suc q) w) < depthOf s + opens (take (suc q) w) → WrongFrom s w q
-  many : q < length w → 127 < countOf s + nodesBegun (spotOf s) (take (suc q) w) → WrongFrom s w q
+  many : q < length w → mostNodes < countOf s + nodesBegun (spotOf s) (take (suc q) w) → WrongFrom s w q
   large : (v : ℕ) → q < length w → spot (spotOf s) (take (suc q) w) ≡ in-number v → 254 < v → WrongFrom s w q
 
 -- at the first byte

@@ -11,7 +11,7 @@ use lib.ListN.{length}
 use Rattle.sets.proofs.Bools.{and-l}
 use Rattle.trees.specs.Trees.{Forest, Tree}
 use Rattle.bodies.specs.Draws.{bodyOf, bytes, bytesF, nodeCount, nodeCountF}
-use Rattle.bodies.specs.Nodes.{none}
+use Rattle.bodies.specs.Nodes.{innerBytes, leafBytes, mostNodes}
 use Rattle.newick.specs.Form.{Blanks, BranchLength, Digits, Form, Further, Subtrees, Number, Subtree, bracket, digit, last-digit, last-one, no-blank, no-further, no-length, nought, one-blank, one-digit, one-further, one-more, other, parted-length, lone, text, whole-length}
 use Rattle.newick.specs.Scan.{Mode, State, act, atEnd, behind, due, ended, outset, go, taken, number, pastLimit, parted, pointed, scan, scanFrom, start, state, innermost, whole}
 use Rattle.newick.specs.Signs.{Sign, closing, colon, comma, figure, foreign, opening, point, semicolon, sign, space}
@@ -65,7 +65,7 @@ further-most no-further = omega arith
 further-most (one-further h g) = let m = further-most g in omega arith
 
 module _ (ps : List ℕ) (n : ℕ) (d : List ℕ) where
-  pub number-over : (v : ℕ) (g : Sign) → Clear g → (act (state (number v) ps n d) g ≡ act (state (behind true) ps (suc n) (d ++ (innermost ps ∷ v ∷ []))) g) × (pastLimit (state (number v) ps n d) g ≡ pastLimit (state (behind true) ps (suc n) (d ++ (innermost ps ∷ v ∷ []))) g)
+  pub number-over : (v : ℕ) (g : Sign) → Clear g → (act (state (number v) ps n d) g ≡ act (state (behind true) ps (suc n) (d ++ leafBytes (innermost ps) v)) g) × (pastLimit (state (number v) ps n d) g ≡ pastLimit (state (behind true) ps (suc n) (d ++ leafBytes (innermost ps) v)) g)
   unfolding act pastLimit
   number-over v space c = (refl, refl)
   number-over v (figure x) c = absurd c
@@ -112,7 +112,7 @@ module _ (ps : List ℕ) (n : ℕ) (d : List ℕ) where
 
   -- the further digits of a species number
   further-taken : (k : Bool) {x v : ℕ} {w r : List ℕ} → Further x v w r → 0 < x → (k ≡ true → v ≤ 254) → ClearFirst r
-      → scanFrom k (state (number x) ps n d) w ≡ scanFrom k (state (behind true) ps (suc n) (d ++ (innermost ps ∷ v ∷ []))) r
+      → scanFrom k (state (number x) ps n d) w ≡ scanFrom k (state (behind true) ps (suc n) (d ++ leafBytes (innermost ps) v)) r
   further-taken k (no-further {v} {r}) p l c = alike k _ _ (number-over v) refl r c
   further-taken k (one-further {x} {v} {b} {w} {r} h g) p l c =
       on k _ _ b w (λ t. number-low x b h (let m = further-most g in omega (arith, l t))) (number-digit x b p h) ∙ further-taken k g (omega arith) l c
@@ -121,12 +121,12 @@ module _ (ps : List ℕ) (n : ℕ) (d : List ℕ) where
   unfolding act
   start-digit b h = rw (digit-sign b h) refl
 
-  start-low : (b : ℕ) → So (digit b) → n < 127 → pastLimit (state start ps n d) (sign b) ≡ false
+  start-low : (b : ℕ) → So (digit b) → n < mostNodes → pastLimit (state start ps n d) (sign b) ≡ false
   unfolding pastLimit
-  start-low b h l = ap (pastLimit (state start ps n d)) (digit-sign b h) ∙ ne-eqb n 127 (λ e. omega arith)
+  start-low b h l = ap (pastLimit (state start ps n d)) (digit-sign b h) ∙ ne-eqb n mostNodes (λ e. omega arith)
 
-  number-taken : (k : Bool) {v : ℕ} {w r : List ℕ} → Number v w r → (k ≡ true → (n < 127) × (v ≤ 254)) → ClearFirst r
-      → scanFrom k (state start ps n d) w ≡ scanFrom k (state (behind true) ps (suc n) (d ++ (innermost ps ∷ v ∷ []))) r
+  number-taken : (k : Bool) {v : ℕ} {w r : List ℕ} → Number v w r → (k ≡ true → (n < mostNodes) × (v ≤ 254)) → ClearFirst r
+      → scanFrom k (state start ps n d) w ≡ scanFrom k (state (behind true) ps (suc n) (d ++ leafBytes (innermost ps) v)) r
   number-taken k (nought {r}) l c = on k _ _ 48 r (λ t. start-low 48 refl (l t .0)) (start-digit 48 refl) ∙ alike k _ _ (number-over 0) refl r c
   number-taken k (other {v} {b} {w} {r} h z g) l c =
       let lo : 48 ≤ b = leb-true 48 b (and-l (leb 48 b) (leb b 57) h) in
@@ -170,9 +170,9 @@ module _ (ps : List ℕ) (n : ℕ) (d : List ℕ) where
         ∙ on k _ _ 46 y (λ t. refl) refl ∙ digits-taken k (state pointed ps n d) (state parted ps n d) pointed-digit parted-digit g′ ∙ alike k _ _ parted-over refl r c,
   )
 
-  open-low : length ps < 63 → n < 127 → pastLimit (state start ps n d) opening ≡ false
+  open-low : length ps < 63 → n < mostNodes → pastLimit (state start ps n d) opening ≡ false
   unfolding pastLimit
-  open-low a b = rw (ne-eqb (length ps) 63 (λ e. omega arith), ne-eqb n 127 (λ e. omega arith)) refl
+  open-low a b = rw (ne-eqb (length ps) 63 (λ e. omega arith), ne-eqb n mostNodes (λ e. omega arith)) refl
 
 pub clear-branch : {w r : List ℕ} → BranchLength w r → ClearFirst r → ClearFirst w
 unfolding sign
@@ -186,10 +186,10 @@ same-state k m ps e f r = rw (e, f) refl
 
 -- below a depth of p, and with n nodes before it, a tree keeps the limits
 abbrev pub Room : ℕ → ℕ → Tree → Type 0
-Room p n t = (p + height t ≤ 63) × (n + nodeCount t ≤ 127) × (largestSpecies t ≤ 254)
+Room p n t = (p + height t ≤ 63) × (n + nodeCount t ≤ mostNodes) × (largestSpecies t ≤ 254)
 
 abbrev pub RoomF : ℕ → ℕ → Forest → Type 0
-RoomF p n f = (suc p + heightF f ≤ 63) × (n + nodeCountF f ≤ 127) × (largestSpeciesF f ≤ 254)
+RoomF p n f = (suc p + heightF f ≤ 63) × (n + nodeCountF f ≤ mostNodes) × (largestSpeciesF f ≤ 254)
 
 mutual
   unfolding act pastLimit sign
@@ -197,14 +197,14 @@ mutual
   pub subtree-taken : {t : Tree} {w r : List ℕ} → Subtree t w r → (k : Bool) (ps : List ℕ) (n : ℕ) (d : List ℕ) → (k ≡ true → Room (length ps) n t) → ClearFirst r
       → (l : Bool) × (scanFrom k (state start ps n d) w ≡ scanFrom k (state (behind l) ps (n + nodeCount t) (d ++ bytes t (innermost ps) n)) r)
   subtree-taken (lone {v} {w} {u} {x} {r} a m g) k ps n d h c =
-      let e = branch-taken ps (suc n) (d ++ (innermost ps ∷ v ∷ [])) k g c in
+      let e = branch-taken ps (suc n) (d ++ leafBytes (innermost ps) v) k g c in
       (e .0, skips k _ refl refl a ∙ number-taken ps n d k m (λ t. (omega (arith, h t .1), h t .2)) (clear-branch g c) ∙ e .1 ∙ same-state k (behind (e .0)) ps (omega arith) refl r)
   subtree-taken (bracket {f} {w} {u} {x} {r} a m g) k ps n d h c =
-      let e = branch-taken ps (suc n + nodeCountF f) ((d ++ (innermost ps ∷ none ∷ [])) ++ bytesF f n (suc n)) k g c in (
+      let e = branch-taken ps (suc n + nodeCountF f) ((d ++ innerBytes (innermost ps)) ++ bytesF f n (suc n)) k g c in (
         e .0,
         skips k _ refl refl a ∙ on k _ _ 40 u (λ t. open-low ps n d (omega (arith, h t .0)) (omega (arith, h t .1))) refl
-            ∙ subtrees-taken m k n ps (suc n) (d ++ (innermost ps ∷ none ∷ [])) (λ t. (omega (arith, h t .0), omega (arith, h t .1), h t .2)) ∙ e .1
-            ∙ same-state k (behind (e .0)) ps (omega arith) (append-assoc d (innermost ps ∷ none ∷ []) (bytesF f n (suc n))) r,
+            ∙ subtrees-taken m k n ps (suc n) (d ++ innerBytes (innermost ps)) (λ t. (omega (arith, h t .0), omega (arith, h t .1), h t .2)) ∙ e .1
+            ∙ same-state k (behind (e .0)) ps (omega arith) (append-assoc d (innerBytes (innermost ps)) (bytesF f n (suc n))) r,
       )
 
   subtrees-taken : {f : Forest} {w r : List ℕ} → Subtrees f w r → (k : Bool) (p : ℕ) (ps : List ℕ) (n : ℕ) (d : List ℕ) → (k ≡ true → RoomF (length ps) n f)

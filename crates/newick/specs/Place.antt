@@ -6,6 +6,7 @@ use mathlib.Core.Path.{_≡_}
 use Prim.Native.Nat.{ℕ, suc, _+_, _*_, _<_}
 use lib.ListN.{length, take}
 use Rattle.trees.specs.Trees.{Tree}
+use Rattle.bodies.specs.Nodes.{mostNodes}
 use Rattle.newick.specs.Form.{Form}
 use Rattle.newick.specs.Signs.{Sign, sign, pick}
 
@@ -67,7 +68,7 @@ pub data Wrong (w : List ℕ) (p : ℕ) : Type 0 where
   -- "the bracket one too deep": more than 63 are open
   deep : p < length w → 63 + closes (take (suc p) w) < opens (take (suc p) w) → Wrong w p
   -- "the first sign of the 128th node"
-  many : p < length w → 127 < nodesBegun fresh (take (suc p) w) → Wrong w p
+  many : p < length w → mostNodes < nodesBegun fresh (take (suc p) w) → Wrong w p
   -- "the digit that takes a number past 254"
   large : (v : ℕ) → p < length w → spot fresh (take (suc p) w) ≡ in-number v → 254 < v → Wrong w p
 

@@ -5,7 +5,7 @@ use mathlib.Core.List.{List, [], _∷_, _++_}
 use Prim.Native.Nat.{ℕ, zero, suc, _+_, _*_}
 use lib.Dec.{eqb, ltb}
 use lib.ListN.{length}
-use Rattle.bodies.specs.Nodes.{none}
+use Rattle.bodies.specs.Nodes.{innerBytes, leafBytes, mostNodes, none}
 use Rattle.newick.specs.Signs.{Sign, sign, pick}
 
 pub data Mode : Type 0 where
@@ -66,8 +66,8 @@ past f q l ps n d s = pick (go (state (behind l) ps n d)) f halt (shut ps n d) (
 -- one sign, limits aside
 unfoldable pub act : State → Sign → Move
 act (state start ps n d) s =
-    pick (go (state start ps n d)) (λ x. go (state (number x) ps n d)) (go (state start (n ∷ ps) (suc n) (d ++ (innermost ps ∷ none ∷ [])))) halt halt halt halt halt halt s
-act (state (number v) ps n d) s = past (extended v ps n d) halt true ps (suc n) (d ++ (innermost ps ∷ v ∷ [])) s
+    pick (go (state start ps n d)) (λ x. go (state (number x) ps n d)) (go (state start (n ∷ ps) (suc n) (d ++ innerBytes (innermost ps)))) halt halt halt halt halt halt s
+act (state (number v) ps n d) s = past (extended v ps n d) halt true ps (suc n) (d ++ leafBytes (innermost ps) v) s
 act (state (behind l) ps n d) s = past (λ x. halt) halt l ps n d s
 act (state due ps n d) s = pick (go (state due ps n d)) (λ x. go (state whole ps n d)) halt halt halt halt halt halt halt s
 act (state whole ps n d) s = past (λ x. go (state whole ps n d)) (go (state pointed ps n d)) false ps n d s
@@ -77,7 +77,7 @@ act (state ended ps n d) s = pick (go (state ended ps n d)) (λ x. halt) halt ha
 
 -- "Limits: 63 open brackets, 127 nodes, species number 254": does this sign pass one?
 unfoldable pub pastLimit : State → Sign → Bool
-pastLimit (state start ps n d) s = pick false (λ x. eqb n 127) (eqb (length ps) 63 || eqb n 127) false false false false false false s
+pastLimit (state start ps n d) s = pick false (λ x. eqb n mostNodes) (eqb (length ps) 63 || eqb n mostNodes) false false false false false false s
 pastLimit (state (number v) ps n d) s = pick false (λ x. ltb 254 (10 * v + x)) false false false false false false false s
 pastLimit (state (behind l) ps n d) s = false
 pastLimit (state due ps n d) s = false

@@ -2,6 +2,7 @@
 use Prim.Native.Nat.{ℕ, suc, max, _≤_}
 use Rattle.trees.specs.Trees.{Tree, Forest, leaf, node, nil, cons}
 use Rattle.bodies.specs.Draws.{nodeCount}
+use Rattle.bodies.specs.Nodes.{mostNodes}
 
 -- how many brackets are open at a time, at most
 abbrev mutual
@@ -25,5 +26,5 @@ abbrev mutual
 
 pub record Within (t : Tree) : Type 0 where
   pub depth : height t ≤ 63
-  pub count : nodeCount t ≤ 127
+  pub count : nodeCount t ≤ mostNodes
   pub numbers : largestSpecies t ≤ 254

@@ -1,6 +1,6 @@
 -- The children of a node, written one by one in house order: what was written and what is left make the whole. Assumes nothing.
 use mathlib.Core.Bool.{cond}
-use mathlib.Core.List.{List, [], _∷_}
+use mathlib.Core.List.{List}
 use mathlib.Core.Logic.{_≢_}
 use mathlib.Core.Path.{_∙_, _≡_, ap, ap₂, refl, sym}
 use Prim.Native.Nat.{_*_, _+_, _<_, _≤_, suc, ℕ}
@@ -11,10 +11,12 @@ use lib.Seq.{length-sets, sets}
 use Rattle.sets.specs.Sets.{Lowest, minus}
 use Rattle.trees.specs.Trees.{Forest, house, houseF}
 use Rattle.bodies.proofs.Housed.{house-count, houseF-count}
+use Rattle.bodies.proofs.Puts.{under-inner, under-leaf}
 use Rattle.bodies.proofs.Stores.{forest-stores, node-stores}
 use Rattle.bodies.specs.Draws.{bytes, bytesF, forestOf, nodeCount, nodeCountF, subtree}
 use Rattle.groups.specs.Groups.{Groups, setOf}
-use Rattle.bodies.specs.Nodes.{Good, Nodes, children, width, none}
+use Rattle.bodies.specs.Nodes.{Good, Nodes, children, nodeAt, none, underBytes, width}
+use Rattle.bodies.specs.declared.Node.{Node}
 use Rattle.children.specs.Children.{FindsChild}
 use Rattle.children.proofs.Left.{Left, Opened, alone, housed, left-end, left-next, left-start, opened, parted}
 
@@ -79,10 +81,10 @@ module _ (v : Nodes) (g : Good 64 v) where
     count-kids (alone n e t) = rw (e, t) refl
     count-kids (parted n t) = ap nodeCount t ∙ ap suc (sym (houseF-count (forestOf (subtree v) (children v i))))
 
-    whole : Opened v i → (o : List ℕ) (p at : ℕ) → sets (sets o (width * at) (p ∷ v .species i ∷ [])) (width * suc at) (bytesF (housed v (children v i)) at (suc at))
-        ≡ sets o (width * at) (bytes (house (subtree v i)) p at)
-    whole (alone n e t) o p at = rw (e, t) refl
-    whole (parted n t) o p at = rw (n, t) (node-stores o (houseF (forestOf (subtree v) (children v i))) p at)
+    whole : Opened v i → (o : List ℕ) (p at : ℕ) → withKids v i (sets o (width * at) (underBytes p (nodeAt v i))) at ≡ sets o (width * at) (bytes (house (subtree v i)) p at)
+    whole (alone n e t) o p at = ap (λ (b : List ℕ). withKids v i (sets o (width * at) b) at) (under-leaf p v i) ∙ rw (e, t) refl
+    whole (parted n t) o p at =
+        ap (λ (b : List ℕ). withKids v i (sets o (width * at) b) at) (under-inner p v i n) ∙ rw t (node-stores o (houseF (forestOf (subtree v) (children v i))) p at)
 
     pub todo-start : (groups : List ℕ) → Groups v groups → (at : ℕ) (room : List ℕ) (next s rest : ℕ)
         → next ≡ at + 1 → s ≡ v .species i → rest ≡ cond (eqb s none) (getD groups i 0) 0
@@ -92,6 +94,6 @@ module _ (v : Nodes) (g : Good 64 v) where
         record { forest = housed v (children v i); left = left-start v g i h groups q s rest es er; write = rw n refl; ends = omega (arith, count-kids (opened v g i h)) }
 
     -- the room once the whole tree was written
-    pub todo-whole : (o : List ℕ) (p at s : ℕ) → s ≡ v .species i
-        → withKids v i (sets o (width * at) (p ∷ s ∷ [])) at ≡ sets o (width * at) (bytes (house (subtree v i)) p at)
-    todo-whole o p at s e = rw e (whole (opened v g i h) o p at)
+    pub todo-whole : (o : List ℕ) (p at : ℕ) (u : Node) → u ≡ nodeAt v i
+        → withKids v i (sets o (width * at) (underBytes p u)) at ≡ sets o (width * at) (bytes (house (subtree v i)) p at)
+    todo-whole o p at u e = rw e (whole (opened v g i h) o p at)

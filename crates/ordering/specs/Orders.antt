@@ -4,9 +4,9 @@ use Prim.Native.Nat.{ℕ}
 use lib.ListN.{length}
 use Rattle.bodies.specs.Nodes.{nodes}
 use Rattle.bodies.specs.Draws.{ordered, written}
-use Rattle.answers.specs.Answers.{Told, node-count, told, value}
+use Rattle.refusals.specs.Told.{Told, node-count, told, value}
 use Rattle.answers.specs.Looks.{Settled, after, answered, firstRefusal, lookCount, lookLength, lookRoom, lookRules}
-use Rattle.answers.specs.Refusals.{refusalTold}
+use Rattle.refusals.specs.Refusals.{refusalTold}
 use Rattle.answers.specs.declared.Look.{Look}
 use Rattle.answers.specs.declared.Written.{Written}
 use Rattle.ordering.specs.declared.Answer.{Answer}

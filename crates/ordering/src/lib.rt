@@ -13,7 +13,7 @@ ghost use Rattle.ordering.specs.Orders.{Orders};
 
 pub enum Answer {
     Done(answers::Written),
-    Refused(answers::Refusal),
+    Refused(refusals::Refusal),
 }
 
 // The species under the children of a node: a leaf has none.
@@ -40,10 +40,10 @@ fn put(
     ensures { λ r. ⌜ r ≡ at + nodeCount (subtree (nodes (now (body .entry))) i) ⌝ }
     ensures { λ _. ⌜ now (room .exit) ≡ sets (now (room .entry)) (width * at) (bytes (house (subtree (nodes (now (body .entry))) i)) p at) ⌝ }
 {
-    let s = bodies::species(body, i);
-    bodies::put_node(room, at, p, s);
+    let v = bodies::node_at(body, i);
+    bodies::put_under(room, at, p, v);
     let mut next = at + 1;
-    let mut rest = lower(s, groups[i]);
+    let mut rest = lower(v.species, groups[i]);
     while rest != 0 {
         let c = children::child_with(body, groups, i, sets::lowest(rest));
         next = put(body, groups, c, at as u8, next, room);
@@ -77,7 +77,7 @@ pub fn order(n: usize, body: &[u8], room: &mut [u8]) -> Answer
         }
     }
     if room.len() < body.len() {
-        return Answer::Refused(answers::Refusal::ShortRoom);
+        return Answer::Refused(refusals::Refusal::ShortRoom);
     }
     let count = arrange(body, room);
     Answer::Done(answers::Written { nodes: count })

@@ -11,10 +11,10 @@ use Rattle.sets.proofs.Bools.{and-i, and-l, and-r, ne-e, not-e, test}
 use Rattle.sets.proofs.Tests.{has-true, true-has}
 use Rattle.sets.specs.Sets.{has}
 use Rattle.trees.specs.Triplets.{onTriple}
-use Rattle.tables.proofs.Find.{first-none}
+use Rattle.triples.proofs.Find.{first-none}
 use Rattle.tables.proofs.Places.{place-ab, place-ac, place-bc}
-use Rattle.tables.specs.Find.{firstTriple}
-use Rattle.tables.specs.Index.{C, index}
+use Rattle.triples.specs.Find.{firstTriple}
+use Rattle.triples.specs.Index.{C, index}
 use Rattle.outside.specs.Reaches.{Enclosed, reaches}
 
 -- ---- over any tests: d tells whether the byte is not 0; p, q and r whether a, b and c are in the set

@@ -8,7 +8,7 @@ use lib.ListN.{getD}
 use Rattle.sets.specs.Sets.{Has, has}
 use Rattle.trees.specs.Triplets.{Triplets}
 use Rattle.tables.specs.Bytes.{placeOf}
-use Rattle.tables.specs.Index.{index}
+use Rattle.triples.specs.Index.{index}
 
 -- "a byte that isn't 0 on a triple reaching outside the set", for the table t and the set s
 unfoldable pub reaches : List ℕ → ℕ → Triplets

@@ -1,7 +1,7 @@
 // The first triple with a byte that is not 0 and a species outside a set.
 ghost use mathlib.Core.Path.{_≡_};
 ghost use Prim.Native.Nat.{_<_, _≤_};
-ghost use Rattle.tables.specs.Finds.{Finds};
+ghost use Rattle.triples.specs.Finds.{Finds};
 ghost use Rattle.outside.specs.Reaches.{reaches};
 
 // Is the byte of the triple a < b < c not 0, and one of the three outside s? The set is asked first: mostly it has all three.
@@ -16,7 +16,7 @@ fn reaches(t: &[u8], s: u64, a: usize, b: usize, c: usize) -> bool
 }
 
 // The first triple of n species, in index order, that reaches outside s with a byte that is not 0.
-pub fn first_outside(n: usize, t: &[u8], s: u64) -> tables::Found
+pub fn first_outside(n: usize, t: &[u8], s: u64) -> triples::Found
     requires { ⌜ n ≤ 64 ⌝ }
     ensures { λ r. ⌜ Finds n (reaches (now (t .entry)) s) r ⌝ }
 {
@@ -38,12 +38,12 @@ pub fn first_outside(n: usize, t: &[u8], s: u64) -> tables::Found
         }
     }
     if found {
-        tables::Found::At(tables::Triple {
+        triples::Found::At(triples::Triple {
             low: x,
             mid: y,
             high: z,
         })
     } else {
-        tables::Found::Nowhere
+        triples::Found::Nowhere
     }
 }

@@ -16,7 +16,7 @@ use Rattle.answers.specs.Inputs.{Body}
 use Rattle.answers.specs.Looks.{after, answered, firstRefusal, lookCount, lookRules}
 use Rattle.answers.specs.declared.Look.{Look}
 use Rattle.answers.specs.declared.Look.the-variants.{Pass, Refuse}
-use Rattle.answers.specs.declared.Refusal.{Refusal}
+use Rattle.refusals.specs.declared.Refusal.{Refusal}
 use Rattle.answers.specs.declared.Written.{Written}
 use Rattle.newick.proofs.Theorems.{takes-within}
 use Rattle.newick.specs.Scan.{Scanned, scan, stuck, taken}
@@ -24,7 +24,7 @@ use Rattle.parsing.proofs.Texts.{text-body, text-pass}
 use Rattle.parsing.specs.Parses.{Parses, bodyIn, lookForm, lookLong, parseAnswer, parseDone, parseLooks, textBody}
 use Rattle.parsing.specs.declared.Answer.{Answer}
 use Rattle.parsing.specs.declared.Answer.the-variants.{Done, Refused}
-use Rattle.papers.specs.Bound.{topOf}
+use Rattle.highest.specs.Bound.{topOf}
 use Rattle.papers.specs.Bundled.{withLength}
 use Rattle.papers.specs.OneText.{nextOf}
 use Rattle.papers.specs.Reads.{textAnswer}

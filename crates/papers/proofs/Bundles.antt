@@ -5,15 +5,15 @@ use Prim.Native.Nat.{ℕ, zero, suc, _+_, _<_, _≤_}
 use native.Mathlib.Omega.{arith}
 use lib.ListN.{drop, getD, length, length-append, take, take-append-drop}
 use lib.Seq.{drop-append-add, getD-append-add, getD-append-seam, split-at, take-append-seam, take-length, take-suc}
-use Rattle.bodies.proofs.Rules.{length-good}
+use Rattle.bodies.proofs.Good.{length-good}
 use Rattle.bodies.specs.Nodes.{Good, badLength, nodes}
 use Rattle.answers.specs.Inputs.{Body, Count}
 use Rattle.collections.proofs.Starts.{start-step, start-zero}
 use Rattle.collections.proofs.Whole.{whole-most}
 use Rattle.collections.specs.Collection.{Collection}
-use Rattle.collections.specs.Layout.{bodyAt, lengthAt, start}
-use Rattle.papers.specs.Bound.{topOfAll}
-use Rattle.papers.proofs.Bounds.{all-most, all-top, top-good, top-most, top-some}
+use Rattle.collections.specs.Layout.{bodyAt, lengthAt, longestCollection, start}
+use Rattle.highest.specs.Bound.{topOfAll}
+use Rattle.highest.proofs.Bounds.{all-most, all-top, top-good, top-most, top-some}
 use Rattle.papers.specs.Bundled.{bundled, chained, withLength}
 
 chained-append : (bs cs : List (List ℕ)) → chained (bs ++ cs) ≡ chained bs ++ chained cs
@@ -119,5 +119,5 @@ module _ (n : ℕ) (bs : List (List ℕ)) (some : 0 < length bs) (few : length b
   }
 
   -- no longer than the longest
-  pub bundled-most : length (bundled n bs) ≤ 4099
+  pub bundled-most : length (bundled n bs) ≤ longestCollection
   bundled-most = whole-most (bundled n bs) bundled-whole

@@ -1,8 +1,6 @@
 -- Laws of reading the papers.
-pub mod Texts
 pub mod Bodies
 pub mod Stores
-pub mod Bounds
 pub mod Bundles
 pub mod Turns
 pub mod Outcomes

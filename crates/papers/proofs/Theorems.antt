@@ -10,11 +10,11 @@ use lib.ListN.{List·getD-map, drop, getD, length, length-map, take}
 use Rattle.answers.specs.Inputs.{Body}
 use Rattle.newick.specs.Scan.{scanFrom}
 use Rattle.parsing.specs.Parses.{textBody}
-use Rattle.papers.specs.Bound.{topOfAll}
+use Rattle.highest.specs.Bound.{topOfAll}
 use Rattle.papers.specs.Bundled.{bundled}
 use Rattle.papers.specs.Papers.{CollectionOf, EachRead, FirstBad, IsRead, Says, textAt}
 use Rattle.papers.specs.Reads.{allRead, bodiesOf, foundIn, mostBytes, mostPapers, papersAnswer, readFrom}
-use Rattle.papers.specs.Texts.{texts}
+use Rattle.texts.specs.Texts.{texts}
 use Rattle.papers.specs.declared.Answer.{Answer}
 use Rattle.papers.specs.declared.Answer.the-variants.{Bad, Done, Long}
 use Rattle.papers.specs.declared.Bad as refused
@@ -22,7 +22,7 @@ use Rattle.papers.specs.declared.Found.{Found}
 use Rattle.papers.proofs.Bodies.{text-read}
 use Rattle.papers.proofs.Bundles.{bundled-body, bundled-most, bundled-whole}
 use Rattle.papers.proofs.Outcomes.{Outcome, all, bad, many, outcome}
-use Rattle.papers.proofs.Texts.{text-bytes, text-within}
+use Rattle.texts.proofs.Texts.{text-bytes, text-within}
 
 -- 1 to 16 bodies that are good with n = 64, bundled with one more than their highest species, are a good collection of these bodies; and that number is 1 to 64
 pub bundled-good : (n : ℕ) (bs : List (List ℕ)) → 0 < length bs → length bs ≤ mostPapers → ((k : ℕ) → k < length bs → Body 64 (getD bs k [])) → n ≡ topOfAll bs → CollectionOf n bs (bundled n bs)

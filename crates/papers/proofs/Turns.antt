@@ -8,23 +8,24 @@ use borrow.Author.Tests.{eq-eqb, le-ltb, lt-ltb, ne-eqb}
 use lib.ListN.{drop, length, length-append, length-drop, length-map, set, take}
 use lib.Seq.{drop-drop, length-sets, length-take-le, sets, sets-eq, take-at, take-set-lt}
 use Rattle.bodies.specs.Nodes.{longest, nodes}
-use Rattle.answers.specs.declared.Refusal.{Refusal}
+use Rattle.refusals.specs.declared.Refusal.{Refusal}
 use Rattle.answers.specs.declared.Written.{Written}
+use Rattle.collections.specs.Layout.{longestCollection}
 use Rattle.parsing.specs.Parses.{textBody}
 use Rattle.parsing.specs.declared.Answer as parsing
 use Rattle.parsing.specs.declared.Answer.the-variants as parsed
-use Rattle.papers.specs.Bound.{topOf, topOfAll}
+use Rattle.highest.specs.Bound.{topOf, topOfAll}
 use Rattle.papers.specs.Bundled.{bundled, chained, withLength}
 use Rattle.papers.specs.OneText.{nextOf, onward}
 use Rattle.papers.specs.Reads.{allRead, bodiesOf, foundIn, mostBytes, mostPapers, papersAnswer, readFrom, textAnswer}
-use Rattle.papers.specs.Texts.{allBlank, span, texts}
+use Rattle.texts.specs.Texts.{allBlank, span, texts}
 use Rattle.papers.specs.declared.Answer.{Answer}
 use Rattle.papers.specs.declared.Answer.the-variants.{Bad, Done, Long, Many, None}
 use Rattle.papers.specs.declared.Next.the-variants.{At, Stop}
 use Rattle.papers.proofs.Bodies.{text-read, text-short}
-use Rattle.papers.proofs.Bounds.{all-more, top-most}
+use Rattle.highest.proofs.Bounds.{all-more, top-most}
 use Rattle.papers.proofs.Bundles.{chained-more}
-use Rattle.papers.proofs.Texts.{span-some, span-within, texts-next, texts-none}
+use Rattle.texts.proofs.Texts.{span-some, span-within, texts-next, texts-none}
 
 -- ---- the answer of one text, from what comes of it for the loop
 
@@ -112,13 +113,13 @@ pub record SoFar (w : List ℕ) (n k at p : ℕ) (o : List ℕ) : Type 0 where
   pub three : length front ≡ 3
   pub held : take p o ≡ front ++ chained (map textBody before)
   pub most : p ≤ 3 + (2 + longest) * k
-  pub long : length o ≡ 4099
+  pub long : length o ≡ longestCollection
 
 pub turn-long : (w : List ℕ) → mostBytes < length w → Long ≡ papersAnswer w
 unfolding papersAnswer
 turn-long w h = rw (lt-ltb mostBytes (length w) h) refl
 
-pub so-far-none : (w o : List ℕ) → length o ≡ 4099 → SoFar w 0 0 0 3 o
+pub so-far-none : (w o : List ℕ) → length o ≡ longestCollection → SoFar w 0 0 0 3 o
 unfolding topOfAll chained
 so-far-none w o h = record {
   before = [];

@@ -2,17 +2,17 @@
 use mathlib.Core.List.{List, [], _∷_}
 use mathlib.Core.Path.{_≡_, refl}
 use Prim.Native.Nat.{ℕ}
-use Rattle.bodies.specs.Faults.{fault, firstBreak, seen}
+use Rattle.rules.specs.Faults.{fault, firstBreak, seen}
 use Rattle.bodies.specs.Nodes.{children}
 use Rattle.bodies.specs.declared.Fault.the-variants.{BadSpecies}
-use Rattle.answers.specs.declared.Refusal.the-variants.{BadText, BadTree}
+use Rattle.refusals.specs.declared.Refusal.the-variants.{BadText, BadTree}
 use Rattle.newick.proofs.Vectors.{times}
 use Rattle.newick.specs.Scan.{act, pastLimit, scanFrom}
 use Rattle.newick.specs.Signs.{sign}
-use Rattle.papers.specs.Bound.{topAmong, topOfAll}
+use Rattle.highest.specs.Bound.{topAmong, topOfAll}
 use Rattle.papers.specs.Bundled.{bundled, chained}
 use Rattle.papers.specs.Reads.{bodiesOf, papersAnswer, readFrom, textAnswer}
-use Rattle.papers.specs.Texts.{allBlank, span, texts, textsIn}
+use Rattle.texts.specs.Texts.{allBlank, span, texts, textsIn}
 use Rattle.papers.specs.declared.Answer.the-variants.{Bad, Done, Many, None}
 
 -- ((0,1),2);((0,1),(3,(4,5))); and a byte 10

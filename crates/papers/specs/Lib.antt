@@ -1,6 +1,4 @@
 -- From the input of `pull` to the papers' collection: definitions only. What is proved of them stands in `proofs/`.
-pub mod Texts
-pub mod Bound
 pub mod Bundled
 pub mod Reads
 pub mod OneText

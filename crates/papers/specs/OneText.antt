@@ -8,7 +8,7 @@ use lib.Seq.{sets}
 use Rattle.parsing.specs.Parses.{textBody}
 use Rattle.parsing.specs.declared.Answer as parsing
 use Rattle.parsing.specs.declared.Answer.the-variants as parsed
-use Rattle.papers.specs.Bound.{topOf}
+use Rattle.highest.specs.Bound.{topOf}
 use Rattle.papers.specs.Bundled.{withLength}
 use Rattle.papers.specs.Reads.{textAnswer}
 use Rattle.papers.specs.declared.Next.{Next}

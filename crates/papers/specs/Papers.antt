@@ -5,13 +5,13 @@ use Prim.Native.Nat.{ℕ, _+_, _-_, _<_, _≤_}
 use lib.ListN.{drop, getD, length, take}
 use Rattle.answers.specs.declared.Written.{Written}
 use Rattle.collections.specs.Collection.{Collection}
-use Rattle.collections.specs.Layout.{bodyAt, species, trees}
+use Rattle.collections.specs.Layout.{bodyAt, longestCollection, species, trees}
 use Rattle.parsing.specs.Parses.{textBody}
 use Rattle.parsing.specs.declared.Answer.the-variants as parsed
-use Rattle.papers.specs.Bound.{topOfAll}
+use Rattle.highest.specs.Bound.{topOfAll}
 use Rattle.papers.specs.Bundled.{bundled}
 use Rattle.papers.specs.Reads.{bodiesOf, mostBytes, mostPapers, textAnswer}
-use Rattle.papers.specs.Texts.{texts}
+use Rattle.texts.specs.Texts.{texts}
 use Rattle.papers.specs.declared.Answer.{Answer}
 use Rattle.papers.specs.declared.Answer.the-variants.{Bad, Done, Long, Many, None}
 use Rattle.papers.specs.declared.Bad as refused
@@ -31,7 +31,7 @@ pub record CollectionOf (n : ℕ) (bs : List (List ℕ)) (b : List ℕ) : Type 0
   pub species-is : species b ≡ n
   pub trees-is : trees b ≡ length bs
   pub body-is : (k : ℕ) → k < length bs → bodyAt b k ≡ getD bs k []
-  pub most : length b ≤ 4099
+  pub most : length b ≤ longestCollection
 
 -- 1 to 16 texts, each of which is read; f tells of the collection of their bodies
 pub record EachRead (w : List ℕ) (f : Found) : Type 0 where

@@ -9,9 +9,9 @@ use Rattle.bodies.specs.Nodes.{longest}
 use Rattle.parsing.specs.Parses.{parseAnswer, textBody}
 use Rattle.parsing.specs.declared.Answer as parsing
 use Rattle.parsing.specs.declared.Answer.the-variants as parsed
-use Rattle.papers.specs.Bound.{topOfAll}
+use Rattle.highest.specs.Bound.{topOfAll}
 use Rattle.papers.specs.Bundled.{bundled}
-use Rattle.papers.specs.Texts.{texts}
+use Rattle.texts.specs.Texts.{texts}
 use Rattle.papers.specs.declared.Answer.{Answer}
 use Rattle.papers.specs.declared.Answer.the-variants.{Bad, Done, Long, Many, None}
 use Rattle.papers.specs.declared.Found.{Found}

@@ -4,7 +4,7 @@ use mathlib.Core.Path.{_≡_}
 use Prim.Native.Nat.{ℕ, suc, _+_, _-_, _<_, _≤_}
 use native.Mathlib.Omega.{arith}
 use lib.ListN.{drop, length, take}
-use Rattle.bodies.proofs.Rules.{good-more}
+use Rattle.bodies.proofs.Good.{good-more}
 use Rattle.bodies.specs.Nodes.{nodes}
 use Rattle.answers.specs.Inputs.{Body, Count}
 use Rattle.collections.proofs.Starts.{part-is, start-suc}

@@ -2,4 +2,5 @@
 pub mod Bodies
 pub mod Lines
 pub mod Shared
+pub mod Lengths
 pub mod Vectors

@@ -1,24 +1,21 @@
--- What a paper says of the species of a set u, where its body is good: from three shared species on the cut tree, which fits in. Assumes nothing.
-use mathlib.Core.List.{List, [], _∷_, _++_}
+-- What a paper says of the species of a set u, where its body is good: from three shared species on the cut tree. Assumes nothing.
+use mathlib.Core.List.{List, _++_}
 use mathlib.Core.Path.{_∙_, _≡_, ap, refl}
 use Prim.Native.Nat.{ℕ, _<_, _≤_}
 use native.Mathlib.Omega.{arith}
 use borrow.Author.Tests.{le-leb, lt-leb}
-use lib.ListN.{getD, length}
+use lib.ListN.{getD}
 use Rattle.sets.proofs.Sizes.{size-empty}
 use Rattle.sets.specs.Sets.{has, meet, size}
 use Rattle.trees.specs.Cut.{Touches}
-use Rattle.trees.specs.Trees.{house}
 use Rattle.bodies.proofs.Drawn.{tree-below}
-use Rattle.bodies.proofs.Rules.{length-good}
+use Rattle.bodies.proofs.Good.{length-good}
 use Rattle.bodies.specs.Draws.{treeOf}
 use Rattle.bodies.specs.Nodes.{mostNodes, nodes}
 use Rattle.groups.specs.Groups.{Groups, setOf}
 use Rattle.answers.specs.Inputs.{Body}
 use Rattle.writing.specs.Texts.{ended}
-use Rattle.cutting.proofs.Theorems.{cut-longest}
 use Rattle.cutting.proofs.Touching.{meet-touches}
-use Rattle.cutting.specs.Texts.{cutText}
 use Rattle.papers_text.specs.Lines.{cutLine, numbered, shared, sideLine}
 use Rattle.papers_text.specs.Words.{silent-words}
 
@@ -44,6 +41,3 @@ module _ (b : List ℕ) (g : Body 64 b) where
 
       pub shares : Touches (has u) (treeOf b)
       shares = meet-touches (treeOf b) (tree-below 64 (nodes b) (g .good) some-nodes) (setOf (treeOf b)) refl u (λ z. omega (arith, h, ap size z, size-empty))
-
-      pub cut-few : length (cutText (has u) (house (treeOf b)) ++ (59 ∷ [])) ≤ 308
-      cut-few = cut-longest b (g .good) some-nodes (has u) shares

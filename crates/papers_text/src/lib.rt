@@ -1,7 +1,6 @@
 // The lines of the papers: each as it was read, and what each says of some species. Each function writes at `at`, and answers where the next byte goes.
 ghost use mathlib.Core.Path.{_≡_};
-ghost use Prim.Native.Nat.{_+_, _*_, _<_, _≤_};
-ghost use lib.ListN.{length};
+ghost use Prim.Native.Nat.{_<_};
 ghost use Rattle.answers.specs.Inputs.{Body};
 ghost use Rattle.collections.specs.Collection.{Collection};
 ghost use Rattle.collections.specs.Layout.{species, trees};
@@ -10,9 +9,8 @@ ghost use Rattle.papers_text.specs.Lines.{numbered, papersText, sideLine
 
 // Writes which paper it is, tree k of the collection.
 fn put_number(out: &mut [u8], at: usize, k: usize) -> usize
-    requires { ⌜ (at + 8 ≤ length (now out)) × (k < 16) ⌝ }
+    requires { ⌜ k < 16 ⌝ }
     ensures { λ r. ⌜ Writes (now (out .entry)) at (numbered k) (now (out .exit)) r ⌝ }
-    ensures few { λ r. ⌜ r ≤ at + 8 ⌝ }
 {
     let a = writing::put_word(out, at, b"paper ");
     writing::put_decimal(out, a, k as u64 + 1)
@@ -20,10 +18,8 @@ fn put_number(out: &mut [u8], at: usize, k: usize) -> usize
 
 // Writes a line for each paper of a collection of n species: its tree.
 pub fn put_papers(out: &mut [u8], at: usize, n: usize, c: &[u8], count: usize) -> usize
-    requires { ⌜ at + 319 * count ≤ length (now out) ⌝ }
     requires { ⌜ Collection (now c) × (n ≡ species (now c)) × (count ≡ trees (now c)) ⌝ }
     ensures { λ r. ⌜ Writes (now (out .entry)) at (papersText (now (c .entry)) count) (now (out .exit)) r ⌝ }
-    ensures few { λ r. ⌜ r ≤ at + 319 * count ⌝ }
 {
     let mut next = at;
     let mut k = 0;
@@ -40,9 +36,8 @@ pub fn put_papers(out: &mut [u8], at: usize, n: usize, c: &[u8], count: usize) -
 
 // Writes the line of one paper, tree k of the collection: its tree cut to the species of `set`.
 fn put_side(out: &mut [u8], at: usize, set: u64, k: usize, body: &[u8]) -> usize
-    requires { ⌜ (at + 333 ≤ length (now out)) × (k < 16) × Body 64 (now body) ⌝ }
+    requires { ⌜ (k < 16) × Body 64 (now body) ⌝ }
     ensures { λ r. ⌜ Writes (now (out .entry)) at (sideLine set k (now (body .entry))) (now (out .exit)) r ⌝ }
-    ensures few { λ r. ⌜ r ≤ at + 333 ⌝ }
 {
     let mut groups = [0; bodies::MOST_NODES];
     groups::groups(body, &mut groups);
@@ -57,10 +52,8 @@ fn put_side(out: &mut [u8], at: usize, set: u64, k: usize, body: &[u8]) -> usize
 
 // Writes a line for each paper of a collection: what it says of the species of `set`.
 pub fn put_sides(out: &mut [u8], at: usize, set: u64, c: &[u8], count: usize) -> usize
-    requires { ⌜ at + 333 * count ≤ length (now out) ⌝ }
     requires { ⌜ Collection (now c) × (count ≡ trees (now c)) ⌝ }
     ensures { λ r. ⌜ Writes (now (out .entry)) at (sidesText set (now (c .entry)) count) (now (out .exit)) r ⌝ }
-    ensures few { λ r. ⌜ r ≤ at + 333 * count ⌝ }
 {
     let mut next = at;
     let mut k = 0;

@@ -8,15 +8,15 @@ use lib.ListN.{length, take}
 use Rattle.answers.proofs.Answered.{is-refused, is-rest}
 use Rattle.answers.specs.Looks.{firstRefusal, lookCount}
 use Rattle.answers.specs.declared.Look.the-variants.{Pass, Refuse}
-use Rattle.answers.specs.declared.Refusal.{Refusal}
-use Rattle.answers.specs.declared.Refusal.the-variants.{BadText}
+use Rattle.refusals.specs.declared.Refusal.{Refusal}
+use Rattle.refusals.specs.declared.Refusal.the-variants.{BadText}
 use Rattle.bodies.specs.Nodes.{bodyLength}
 use Rattle.newick.specs.Texts.{longestText}
-use Rattle.parsing.specs.Goes.{Whole}
+use Rattle.subtrees.specs.Subtrees.{Whole}
 use Rattle.parsing.specs.Parses.{Parses, Puts, lookForm, lookLong}
 use Rattle.parsing.specs.declared.Answer.{Answer}
 use Rattle.parsing.specs.declared.Answer.the-variants.{Refused}
-use Rattle.parsing.specs.declared.Got.the-variants.{At, Bad}
+use Rattle.numerals.specs.declared.Got.the-variants.{At, Bad}
 
 module _ (n : ℕ) (w o : List ℕ) where
   pub is-bad-count : (x : Refusal) → lookCount n ≡ Refuse x → Parses n w o (Refused x) o

@@ -13,8 +13,8 @@ use Rattle.bodies.specs.Draws.{bodyOf}
 use Rattle.answers.specs.Looks.{andThen, firstRefusal, refuseIf}
 use Rattle.answers.specs.declared.Look.{Look}
 use Rattle.answers.specs.declared.Look.the-variants.{Pass, Refuse}
-use Rattle.answers.specs.declared.Refusal.{Refusal}
-use Rattle.answers.specs.declared.Refusal.the-variants.{BadText}
+use Rattle.refusals.specs.declared.Refusal.{Refusal}
+use Rattle.refusals.specs.declared.Refusal.the-variants.{BadText}
 use Rattle.newick.proofs.Theorems.{refused-at, refuses-exactly, takes-within}
 use Rattle.newick.specs.Place.{Place}
 use Rattle.newick.specs.Scan.{Scanned, scan, stuck, taken}

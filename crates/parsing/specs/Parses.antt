@@ -6,12 +6,12 @@ use lib.Dec.{ltb}
 use lib.ListN.{length}
 use Rattle.bodies.specs.Nodes.{nodes}
 use Rattle.bodies.specs.Draws.{written}
-use Rattle.answers.specs.Answers.{Told, node-count, told, value}
+use Rattle.refusals.specs.Told.{Told, node-count, told, value}
 use Rattle.answers.specs.Looks.{Settled, after, answered, firstRefusal, lookCount, lookRoom, lookRules, refuseIf}
-use Rattle.answers.specs.Refusals.{refusalTold}
+use Rattle.refusals.specs.Refusals.{refusalTold}
 use Rattle.answers.specs.declared.Look.{Look}
 use Rattle.answers.specs.declared.Look.the-variants.{Pass, Refuse}
-use Rattle.answers.specs.declared.Refusal.the-variants.{BadText}
+use Rattle.refusals.specs.declared.Refusal.the-variants.{BadText}
 use Rattle.answers.specs.declared.Written.{Written}
 use Rattle.newick.specs.Scan.{Scanned, scan, stuck, taken}
 use Rattle.newick.specs.Texts.{longestText}

@@ -5,7 +5,7 @@ ghost use Rattle.trees.specs.Check.{differs};
 ghost use Rattle.trees.specs.Trees.{Tree};
 ghost use Rattle.tables.specs.Bytes.{entered};
 ghost use Rattle.groups.specs.Groups.{Candidate};
-ghost use Rattle.tables.specs.Finds.{Finds};
+ghost use Rattle.triples.specs.Finds.{Finds};
 ghost use Rattle.pc.specs.Contrary.{contrary};
 
 // Does an entered triplet of a, b and c differ from the one that the tree says? Where it says no triplet none does.
@@ -27,7 +27,7 @@ pub fn first_contradiction(
     t: &[u8],
     whole: u64,
     meets: &[u64; groups::CELLS],
-) -> tables::Found
+) -> triples::Found
     requires { ⌜ n ≤ 64 ⌝ }
     ensures { λ r. ⌜ ((T : Tree) → Candidate n T whole (now (meets .entry)) → Finds n (differs (entered (now (t .entry))) T) r) ⌝ }
 {
@@ -52,12 +52,12 @@ pub fn first_contradiction(
         }
     }
     if found {
-        tables::Found::At(tables::Triple {
+        triples::Found::At(triples::Triple {
             low: x,
             mid: y,
             high: z,
         })
     } else {
-        tables::Found::Nowhere
+        triples::Found::Nowhere
     }
 }

@@ -22,7 +22,7 @@ use Rattle.trees.proofs.Triples.{swap-same}
 use Rattle.trees.specs.Check.{R, core, sure, unsure}
 use Rattle.trees.specs.Trees.{Siblings, Tree, under}
 use Rattle.trees.specs.Triplets.{Triplets, different, holds, onTriple}
-use Rattle.tables.specs.Index.{index}
+use Rattle.triples.specs.Index.{index}
 use Rattle.groups.proofs.Common.{common-e, common-i}
 use Rattle.groups.proofs.Meant.{says-exactly}
 use Rattle.groups.specs.Groups.{SaysRight, common, cell, cells, says}
@@ -31,9 +31,9 @@ use Rattle.groups.specs.declared.Says.the-variants.{AB, AC, BC}
 use Rattle.masks.proofs.Triples.{isTriplet-says}
 use Rattle.masks.specs.Filling.{isTriplet}
 use Rattle.pi.specs.Cores.{IsCore, Memo, Uncontradicted}
-use Rattle.tables.specs.Finds.{Finds}
-use Rattle.tables.specs.declared.Found.the-variants.{At}
-use Rattle.tables.proofs.Search.{Clear, clear-next, finds-at}
+use Rattle.triples.specs.Finds.{Finds}
+use Rattle.triples.specs.declared.Found.the-variants.{At}
+use Rattle.triples.proofs.Search.{Clear, clear-next, finds-at}
 
 -- the smallest common group of two species has the two siblings where they part ways
 common-near : (T s s′ : Tree) → Formed T → Siblings T s s′ → (a c : ℕ) → So (under s a) → So (under s′ c) → Inside (either (under s) (under s′)) (common T a c)

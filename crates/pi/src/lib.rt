@@ -10,7 +10,7 @@ ghost use Rattle.trees.specs.Triplets.{Triplets, Proper};
 ghost use Rattle.groups.specs.Groups.{cells};
 ghost use Rattle.masks.specs.Masks.{Masks};
 ghost use Rattle.pi.specs.Cores.{IsCore, Recalls, Decides, Uncontradicted};
-ghost use Rattle.tables.specs.Finds.{Finds};
+ghost use Rattle.triples.specs.Finds.{Finds};
 
 // The parts of a and of c in s, together. Never more than s, whatever the masks are, so that the chain ends.
 fn pair(masks: &[u64; groups::CELLS], s: u64, a: usize, c: usize) -> u64
@@ -89,7 +89,7 @@ pub fn first_unforced(
     whole: u64,
     meets: &[u64; groups::CELLS],
     masks: &[u64; groups::CELLS],
-) -> tables::Found
+) -> triples::Found
     requires { ⌜ n ≤ 64 ⌝ }
     ensures { λ r. ⌜ ((E : Triplets) (T : Tree) → Uncontradicted E n T whole (now (meets .entry)) (now (masks .entry)) → Finds n (unsure E n T) r) ⌝ }
 {
@@ -98,7 +98,7 @@ pub fn first_unforced(
         for b in 0..c {
             for a in 0..b {
                 if !sure_at(whole, meets, masks, &mut cores, a, b, c) {
-                    return tables::Found::At(tables::Triple {
+                    return triples::Found::At(triples::Triple {
                         low: a,
                         mid: b,
                         high: c,
@@ -107,5 +107,5 @@ pub fn first_unforced(
             }
         }
     }
-    tables::Found::Nowhere
+    triples::Found::Nowhere
 }

@@ -1,14 +1,12 @@
 -- What reading a Newick text for 64 species refuses: with 14 exactly the texts that are refused at a place, and then with 6 or 9. Assumes nothing.
-use mathlib.Core.Bool.{false≢true, true}
 use mathlib.Core.List.{List}
 use mathlib.Core.Logic.{inl, inr}
 use mathlib.Core.Path.{_∙_, _≡_, ap, refl, sym}
 use Prim.Native.Nat.{ℕ, _≤_}
 use native.Mathlib.Omega.{arith}
-use borrow.Author.Tests.{eq-eqb, eqb-true}
 use lib.Dec.{ltb}
 use lib.ListN.{length}
-use Rattle.bodies.specs.Faults.{fault}
+use Rattle.rules.specs.Faults.{fault}
 use Rattle.bodies.specs.Nodes.{nodes}
 use Rattle.bodies.specs.declared.Verdict.{Verdict}
 use Rattle.bodies.specs.declared.Verdict.the-variants.{Breaks, Fine}
@@ -16,28 +14,30 @@ use Rattle.answers.proofs.Answered.{Each, first-among, first-append, refuse-one
 use Rattle.answers.specs.Looks.{andThen, answered, firstRefusal, ruled}
 use Rattle.answers.specs.declared.Look.{Look}
 use Rattle.answers.specs.declared.Look.the-variants.{Pass, Refuse}
-use Rattle.answers.specs.declared.Refusal.{Refusal}
-use Rattle.answers.specs.declared.Refusal.the-variants.{BadByte, BadCounts, BadLength, BadRecord, BadSet, BadTable, BadText, BadTree, BadVersion, Contradicted, EndsEarly, LeftOver, NoTree, Outside, ShortRoom, Unforced}
+use Rattle.refusals.specs.declared.Refusal.{Refusal}
+use Rattle.refusals.specs.declared.Refusal.the-variants.{BadText, BadTree, ShortRoom}
 use Rattle.newick.specs.Place.{Wrong, deep, early, large, many, stray}
 use Rattle.newick.specs.Texts.{RefusedAt}
-use Rattle.parsing.proofs.Texts.{text-refused, textLooks}
+use Rattle.parsing.proofs.Texts.{text-fourteen, text-refused, textLooks}
 use Rattle.parsing.specs.Parses.{bodyLooks, parseAnswer, parseDone, textBody}
-use Rattle.parsing.specs.declared.Answer.{Answer}
 use Rattle.parsing.specs.declared.Answer.the-variants.{Done, Refused}
-use Rattle.places.specs.Causes.{causeOf, isAt}
-use Rattle.places.specs.Expected.{mostSpecies, stopsAt}
-use Rattle.places.specs.Refused.{placeIn}
+use Rattle.places.specs.Causes.{causeOf, mostSpecies}
+use Rattle.places.specs.NodePlaces.{placeIn}
 use Rattle.places.specs.declared.Cause.{Cause}
 use Rattle.places.specs.declared.Cause.the-variants.{AtNode, AtPlace, Other}
 use Rattle.places.proofs.NodePlaces.{place-within}
 
 -- it is no 14
 abbrev NoText : Refusal → Type 0
-NoText x = (q : ℕ) → x ≡ BadText q → ⊥
+NoText x = (q : ℕ) → causeOf x ≡ AtPlace q → ⊥
 
 ruled-no-text : (v : Verdict) (x : Refusal) → ruled v ≡ Refuse x → NoText x
 ruled-no-text Fine x e q h = let z : _≡_ {A = ℕ} 0 1 = cc in omega arith
-ruled-no-text (Breaks y) x e q h = let z : _≡_ {A = ℕ} 0 1 = cc in omega arith
+ruled-no-text (Breaks y) x e q h =
+    let z : BadTree y ≡ x = cc in
+    let k : AtNode y ≡ AtPlace q = ap causeOf z ∙ h in
+    let i : _≡_ {A = ℕ} 0 1 = cc in
+    omega arith
 
 body-no-text : (n : ℕ) (b : List ℕ) (l : ℕ) → Each NoText (bodyLooks n b l)
 body-no-text n b l = (λ x e. ruled-no-text (fault 0 (nodes b) n) x e, (λ x e. refuse-one NoText (ltb l (length b)) ShortRoom (λ q h. let z : _≡_ {A = ℕ} 0 1 = cc in omega arith) x e, tt))
@@ -55,45 +55,18 @@ module _ (w : List ℕ) (l : ℕ) where
   pub answer-at : (q : ℕ) → RefusedAt w q → parseAnswer mostSpecies w l ≡ Refused (BadText q)
   answer-at q h = looks ∙ ap (λ (k : Look). answered Done Refused (andThen k bodied) (parseDone w)) (text-refused w q .1 h)
 
-  pub at-answer : (q : ℕ) → parseAnswer mostSpecies w l ≡ Refused (BadText q) → RefusedAt w q
-  at-answer q h = by (firstRefusal (textLooks w)) refl bodied refl (sym looks ∙ h)
+  pub at-answer : (x : Refusal) (q : ℕ) → parseAnswer mostSpecies w l ≡ Refused x → causeOf x ≡ AtPlace q → RefusedAt w q
+  at-answer x q h c = by (firstRefusal (textLooks w)) refl bodied refl (sym looks ∙ h)
     where
-      by : (f : Look) → firstRefusal (textLooks w) ≡ f → (g : Look) → bodied ≡ g → answered Done Refused (andThen f g) (parseDone w) ≡ Refused (BadText q) → RefusedAt w q
+      by : (f : Look) → firstRefusal (textLooks w) ≡ f → (g : Look) → bodied ≡ g → answered Done Refused (andThen f g) (parseDone w) ≡ Refused x → RefusedAt w q
       by Pass e Pass k a = let z : _≡_ {A = ℕ} 0 1 = cc in absurd (omega arith)
-      by Pass e (Refuse x) k a = let z : x ≡ BadText q = cc in absurd (first-among NoText (bodyLooks mostSpecies (textBody w) l) (body-no-text mostSpecies (textBody w) l) x k q z)
-      by (Refuse x) e g k a = let z : x ≡ BadText q = cc in text-refused w q .0 (e ∙ ap Refuse z)
-
--- ---- by its cause
-
-at-place : (x : Refusal) (q : ℕ) → causeOf x ≡ AtPlace q → x ≡ BadText q
-at-place BadVersion q e = let z : _≡_ {A = ℕ} 0 1 = cc in absurd (omega arith)
-at-place BadCounts q e = let z : _≡_ {A = ℕ} 0 1 = cc in absurd (omega arith)
-at-place (EndsEarly k) q e = let z : _≡_ {A = ℕ} 0 1 = cc in absurd (omega arith)
-at-place (LeftOver m) q e = let z : _≡_ {A = ℕ} 0 1 = cc in absurd (omega arith)
-at-place (BadLength k) q e = let z : _≡_ {A = ℕ} 0 1 = cc in absurd (omega arith)
-at-place (BadTree x) q e = let z : _≡_ {A = ℕ} 0 1 = cc in absurd (omega arith)
-at-place BadTable q e = let z : _≡_ {A = ℕ} 0 1 = cc in absurd (omega arith)
-at-place (BadByte i) q e = let z : _≡_ {A = ℕ} 0 1 = cc in absurd (omega arith)
-at-place ShortRoom q e = let z : _≡_ {A = ℕ} 0 1 = cc in absurd (omega arith)
-at-place (NoTree u) q e = let z : _≡_ {A = ℕ} 0 1 = cc in absurd (omega arith)
-at-place (Contradicted x) q e = let z : _≡_ {A = ℕ} 0 1 = cc in absurd (omega arith)
-at-place (Unforced i) q e = let z : _≡_ {A = ℕ} 0 1 = cc in absurd (omega arith)
-at-place (BadRecord i) q e = let z : _≡_ {A = ℕ} 0 1 = cc in absurd (omega arith)
-at-place (BadText p) q e = let z : p ≡ q = cc in ap BadText z
-at-place BadSet q e = let z : _≡_ {A = ℕ} 0 1 = cc in absurd (omega arith)
-at-place (Outside i) q e = let z : _≡_ {A = ℕ} 0 1 = cc in absurd (omega arith)
-
-is-place : (c : Cause) (q : ℕ) → isAt q c ≡ true → c ≡ AtPlace q
-is-place (AtPlace p) q e = ap AtPlace (eqb-true p q e)
-is-place (AtNode x) q e = absurd (false≢true e)
-is-place Other q e = absurd (false≢true e)
-
-pub stops-is : (q : ℕ) (a : Answer) → stopsAt q a ≡ true → a ≡ Refused (BadText q)
-stops-is q (Done w) e = absurd (false≢true e)
-stops-is q (Refused x) e = ap Refused (at-place x q (is-place (causeOf x) q e))
-
-pub is-stops : (q : ℕ) (a : Answer) → a ≡ Refused (BadText q) → stopsAt q a ≡ true
-is-stops q a e = ap (stopsAt q) e ∙ eq-eqb q q refl
+      by Pass e (Refuse y) k a = let z : y ≡ x = cc in absurd (first-among NoText (bodyLooks mostSpecies (textBody w) l) (body-no-text mostSpecies (textBody w) l) y k q (ap causeOf z ∙ c))
+      by (Refuse y) e g k a =
+          let p = text-fourteen w y e in
+          let z : y ≡ x = cc in
+          let i : AtPlace (p .0) ≡ AtPlace q = ap causeOf (sym (p .1) ∙ z) ∙ c in
+          let j : p .0 ≡ q = cc in
+          text-refused w q .0 (e ∙ ap Refuse (p .1 ∙ ap BadText j))
 
 -- ---- the place is one of the text, or its length
 
@@ -113,6 +86,6 @@ pub answer-inside : (w : List ℕ) (l : ℕ) (x : Refusal) → parseAnswer mostS
 answer-inside w l x e = by (causeOf x) refl
   where
     by : (c : Cause) → causeOf x ≡ c → placeIn w c ≤ length w
-    by (AtPlace q) h = refused-inside w q (at-answer w l q (e ∙ ap Refused (at-place x q h)))
+    by (AtPlace q) h = refused-inside w q (at-answer w l x q e h)
     by (AtNode y) h = place-within w _ _
     by Other h = omega arith

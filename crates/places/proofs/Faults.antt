@@ -10,7 +10,7 @@ use lib.ListN.{length}
 use Rattle.trees.specs.Trees.{Tree}
 use Rattle.bodies.proofs.Back.{body-length}
 use Rattle.bodies.specs.Draws.{bodyOf}
-use Rattle.bodies.specs.Faults.{breaks, earlier, fault, firstBreak, nodeFault, orElse, parentFault, rightParent, rightSpecies, ruleFault}
+use Rattle.rules.specs.Faults.{breaks, earlier, fault, firstBreak, nodeFault, orElse, parentFault, rightParent, rightSpecies, ruleFault}
 use Rattle.bodies.specs.Nodes.{Nodes, children, longest, nodes}
 use Rattle.bodies.specs.declared.Broken.{Broken}
 use Rattle.bodies.specs.declared.Fault.the-variants.{BadParent, BadSpecies, OnlyChild, SeenBefore}
@@ -19,16 +19,15 @@ use Rattle.bodies.specs.declared.Verdict.the-variants.{Breaks, Fine}
 use Rattle.answers.specs.Looks.{andThen, answered, firstRefusal, refuseIf, ruled}
 use Rattle.answers.specs.declared.Look.{Look}
 use Rattle.answers.specs.declared.Look.the-variants.{Pass, Refuse}
-use Rattle.answers.specs.declared.Refusal.{Refusal}
-use Rattle.answers.specs.declared.Refusal.the-variants.{BadTree, ShortRoom}
+use Rattle.refusals.specs.declared.Refusal.{Refusal}
+use Rattle.refusals.specs.declared.Refusal.the-variants.{BadTree, ShortRoom}
 use Rattle.newick.proofs.Theorems.{takes-within}
 use Rattle.newick.specs.Place.{fresh, nodesBegun}
 use Rattle.newick.specs.Texts.{Readable}
 use Rattle.parsing.proofs.Texts.{text-body, text-fourteen, text-pass, textLooks}
 use Rattle.parsing.specs.Parses.{parseAnswer, parseDone, textBody}
 use Rattle.parsing.specs.declared.Answer.the-variants.{Done, Refused}
-use Rattle.places.specs.Causes.{causeOf}
-use Rattle.places.specs.Expected.{mostSpecies}
+use Rattle.places.specs.Causes.{causeOf, mostSpecies}
 use Rattle.places.specs.NodePlaces.{NodeAt, nodePlace}
 use Rattle.places.specs.declared.Cause.the-variants.{AtNode, AtPlace, Other}
 use Rattle.places.proofs.Answers.{looks}
@@ -75,23 +74,24 @@ fault-under k n v =
         (either-node j (ltb (earlier v s m j) j) (breaks k v j (SeenBefore (earlier v s m j))) _ refl
         (either-node j (eqb m 1) (breaks k v j OnlyChild) Fine refl tt))
 
+-- of the looks at a text w and at its body, where they refuse with 6: the text is read, and its body judged
+judged-by : (w : List ℕ) (l : ℕ) (x : Broken) (f : Look) → firstRefusal (textLooks w) ≡ f → (v : Verdict) → fault 0 (nodes (textBody w)) mostSpecies ≡ v → (o : Bool) → ltb l (length (textBody w)) ≡ o
+    → answered Done Refused (andThen f (andThen (ruled v) (andThen (refuseIf o ShortRoom) Pass))) (parseDone w) ≡ Refused (BadTree x)
+    → (t : Tree) × Readable w t × (ruled (fault 0 (nodes (textBody w)) mostSpecies) ≡ Refuse (BadTree x))
+judged-by w l x Pass e Fine u true q a = let z : _≡_ {A = ℕ} 0 1 = cc in absurd (omega arith)
+judged-by w l x Pass e Fine u false q a = let z : _≡_ {A = ℕ} 0 1 = cc in absurd (omega arith)
+judged-by w l x Pass e (Breaks y) u o q a = let z : y ≡ x = cc in let r = text-pass w .0 e in (r .0, r .1, ap ruled u ∙ ap (λ (b : Broken). Refuse (BadTree b)) z)
+judged-by w l x (Refuse y) e v u o q a =
+    let k = text-fourteen w y e in
+    let i = k .1 in
+    let z : _≡_ {A = ℕ} 0 1 = cc in absurd (omega arith)
+
 -- ---- of a text w that is read, and refused with 6
 
 module _ (w : List ℕ) (l : ℕ) (x : Broken) (h : parseAnswer mostSpecies w l ≡ Refused (BadTree x)) where
   -- its tree's body is judged
   judged : (t : Tree) × Readable w t × (ruled (fault 0 (nodes (textBody w)) mostSpecies) ≡ Refuse (BadTree x))
-  judged = by (firstRefusal (textLooks w)) refl (fault 0 (nodes (textBody w)) mostSpecies) refl (ltb l (length (textBody w))) refl (sym (looks w l) ∙ h)
-    where
-      by : (f : Look) → firstRefusal (textLooks w) ≡ f → (v : Verdict) → fault 0 (nodes (textBody w)) mostSpecies ≡ v → (o : Bool) → ltb l (length (textBody w)) ≡ o
-          → answered Done Refused (andThen f (andThen (ruled v) (andThen (refuseIf o ShortRoom) Pass))) (parseDone w) ≡ Refused (BadTree x)
-          → (t : Tree) × Readable w t × (ruled (fault 0 (nodes (textBody w)) mostSpecies) ≡ Refuse (BadTree x))
-      by Pass e Fine u true q a = let z : _≡_ {A = ℕ} 0 1 = cc in absurd (omega arith)
-      by Pass e Fine u false q a = let z : _≡_ {A = ℕ} 0 1 = cc in absurd (omega arith)
-      by Pass e (Breaks y) u o q a = let z : y ≡ x = cc in let r = text-pass w .0 e in (r .0, r .1, ap ruled u ∙ ap (λ (b : Broken). Refuse (BadTree b)) z)
-      by (Refuse y) e v u o q a =
-          let k = text-fourteen w y e in
-          let i = k .1 in
-          let z : _≡_ {A = ℕ} 0 1 = cc in absurd (omega arith)
+  judged = judged-by w l x (firstRefusal (textLooks w)) refl (fault 0 (nodes (textBody w)) mostSpecies) refl (ltb l (length (textBody w))) refl (sym (looks w l) ∙ h)
 
   node-inside : x .node < nodesBegun fresh w
   node-inside =

@@ -1,8 +1,4 @@
--- The line of a text that is refused: definitions only. What is proved of them stands in `proofs/`.
-pub mod Words
+-- Where a text is refused: definitions only. What is proved of them stands in `proofs/`.
 pub mod Causes
 pub mod LineColumns
 pub mod NodePlaces
-pub mod Expected
-pub mod Refused
-pub mod Stands

@@ -4,14 +4,9 @@ use mathlib.Core.Bool.{cond}
 use mathlib.Core.List.{List, [], _∷_}
 use Prim.Native.Nat.{ℕ, suc}
 use lib.Dec.{eqb}
-use lib.ListN.{take}
 use Rattle.places.specs.declared.LineColumn.{LineColumn}
 
 -- behind the bytes w, from line l and column c on
 abbrev pub lineColumnFrom : ℕ → ℕ → List ℕ → LineColumn
 lineColumnFrom l c [] = record { line = l; column = c }
 lineColumnFrom l c (b ∷ w) = cond (eqb b 10) (lineColumnFrom (suc l) 1 w) (lineColumnFrom l (suc c) w)
-
--- of place p of the input w
-abbrev pub lineColumn : List ℕ → ℕ → LineColumn
-lineColumn w p = lineColumnFrom 1 1 (take p w)

@@ -7,6 +7,8 @@ use lib.Dec.{ltb}
 use lib.ListN.{getD, take}
 use Rattle.newick.specs.Place.{Spot, elsewhere, fresh, in-number, nodeBegins, nodesBegun, onward, spot}
 use Rattle.newick.specs.Signs.{sign}
+use Rattle.places.specs.declared.Cause.{Cause}
+use Rattle.places.specs.declared.Cause.the-variants.{AtNode, AtPlace, Other}
 
 -- may a subtree begin there?
 abbrev pub freshAt : Spot → Bool
@@ -22,6 +24,12 @@ nodePlaceFrom p m (b ∷ w) = cond (ltb m (nodeBegins p (sign b))) 0 (suc (nodeP
 -- where node m begins in the text t
 abbrev pub nodePlace : List ℕ → ℕ → ℕ
 nodePlace t m = nodePlaceFrom fresh m t
+
+-- the place in the text t: "refusal 14 at place q of the text: the place is the text's start + q"; "refusal 6 at node m: the place is where node m begins in the text"
+abbrev pub placeIn : List ℕ → Cause → ℕ
+placeIn t (AtPlace q) = q
+placeIn t (AtNode x) = nodePlace t (x .node)
+placeIn t Other = 0
 
 -- a node begins at place r of w, read from the spot p on, and m others begin before it
 pub record NodeAt (p : Spot) (m : ℕ) (w : List ℕ) (r : ℕ) : Type 0 where

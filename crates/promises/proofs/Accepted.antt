@@ -12,37 +12,38 @@ use Rattle.trees.proofs.Triplets.{different-e, different-i}
 use Rattle.sets.specs.Sets.{size}
 use Rattle.sets.specs.Species.{below}
 use Rattle.tables.specs.Bytes.{entered, over, wrongByte, wrongLength}
-use Rattle.tables.specs.Index.{C}
+use Rattle.triples.specs.Index.{C}
 use Rattle.bodies.proofs.Drawn.{tree-below, tree-formed}
-use Rattle.bodies.proofs.Rules.{length-good}
+use Rattle.bodies.proofs.Good.{length-good}
 use Rattle.bodies.specs.Draws.{treeOf}
-use Rattle.bodies.specs.Faults.{fault}
+use Rattle.rules.specs.Faults.{fault}
 use Rattle.bodies.specs.Nodes.{Good, badLength, nodes, roomFor}
 use Rattle.bodies.specs.declared.Verdict.{Verdict}
 use Rattle.bodies.specs.declared.Verdict.the-variants.{Breaks, Fine}
 use Rattle.answers.proofs.Answered.{Each, first-among, first-append, first-on, first-stop, number-zero, pass-both, pass-false, pass-one, refuse-one, then-pass}
 use Rattle.answers.proofs.Good.{body-pass, count-pass, length-pass, room-pass, rules-pass, table-pass}
-use Rattle.answers.specs.Answers.{Told, Value, node-count, value}
+use Rattle.refusals.specs.Told.{Told, Value, node-count, value}
 use Rattle.answers.specs.Inputs.{Body, Count, Table}
 use Rattle.answers.specs.Looks.{firstRefusal, lookTold, lookBytes, lookCount, lookLength, lookRoom, lookRules, lookTable, refuseIf, ruled, wrongCount}
-use Rattle.answers.specs.Refusals.{refusalTold}
+use Rattle.refusals.specs.Refusals.{refusalTold}
 use Rattle.answers.specs.declared.Look.{Look}
 use Rattle.answers.specs.declared.Look.the-variants.{Pass, Refuse}
-use Rattle.answers.specs.declared.Refusal.{Refusal}
-use Rattle.answers.specs.declared.Refusal.the-variants.{BadByte, BadCounts, BadLength, BadRecord, BadSet, BadTable, BadTree, Contradicted, Outside, ShortRoom, Unforced}
-use Rattle.answers.specs.declared.Contradiction.{Contradiction}
+use Rattle.refusals.specs.declared.Refusal.{Refusal}
+use Rattle.refusals.specs.declared.Refusal.the-variants.{BadByte, BadCounts, BadLength, BadRecord, BadSet, BadTable, BadTree, Contradicted, Outside, ShortRoom, Unforced}
+use Rattle.refusals.specs.declared.Contradiction.{Contradiction}
 use Rattle.collections.proofs.Whole.{read-pass}
 use Rattle.collections.specs.Collection.{Collection}
 use Rattle.collections.specs.Layout.{species}
 use Rattle.collections.specs.Reads.{readLooks}
-use Rattle.entering.proofs.Records.{firstBad-le, firstBad-none, good-e, good-i, none-firstBad}
-use Rattle.entering.specs.Enters.{enterLooks, firstBad}
+use Rattle.records.proofs.Records.{firstBad-le, firstBad-none, good-e, good-i, none-firstBad}
+use Rattle.records.specs.Records.{firstBad}
+use Rattle.entering.specs.Enters.{enterLooks}
 use Rattle.listing.specs.Lists.{listLooks}
 use Rattle.ordering.specs.Orders.{orderLooks}
-use Rattle.building.proofs.Chosen.{outside-pass, set-pass}
-use Rattle.building.specs.Builds.{buildLooks, inputLooks, lookOutcome, nodesIn, outcome}
+use Rattle.admitting.proofs.Chosen.{outside-pass, set-pass}
+use Rattle.admitting.specs.GoodSet.{badSet, firstOutside, inputLooks, lookOutside, lookSet}
+use Rattle.building.specs.Builds.{buildLooks, lookOutcome, nodesIn, outcome}
 use Rattle.building.specs.Vetoes.{vetoed}
-use Rattle.building.specs.GoodSet.{badSet, firstOutside, lookOutside, lookSet}
 use Rattle.checking.proofs.Passing.{pc-first}
 use Rattle.checking.specs.Checks.{candidateLooks, firstDiffers, firstUnsure, lookPC, triplesLooks}
 use Rattle.loosening.specs.Loosens.{loosenLooks}

@@ -8,7 +8,7 @@ use native.Mathlib.Omega.{arith}
 use lib.ListN.{length}
 use lib.Seq.{take-length}
 use Rattle.tables.specs.Filled.{saidBy, tableFor}
-use Rattle.tables.specs.Index.{C}
+use Rattle.triples.specs.Index.{C}
 use Rattle.bodies.specs.Draws.{treeOf}
 use Rattle.bodies.specs.Nodes.{Good, badLength, nodes}
 use Rattle.collections.specs.Collection.{Collection}

@@ -7,15 +7,15 @@ use Prim.Native.Nat.{ℕ}
 use native.Mathlib.Omega.{arith}
 use lib.Dec.{ltb}
 use lib.ListN.{getD, length}
-use Rattle.tables.specs.Index.{C}
+use Rattle.triples.specs.Index.{C}
 use Rattle.bodies.specs.Draws.{treeOf}
 use Rattle.answers.proofs.Answered.{first-on, first-stop}
-use Rattle.answers.specs.Answers.{Told, Value, told}
+use Rattle.refusals.specs.Told.{Told, Value, told}
 use Rattle.answers.specs.Looks.{firstRefusal, lookRoom, lookTold, refuseIf}
-use Rattle.answers.specs.declared.Contradiction.{Contradiction}
+use Rattle.refusals.specs.declared.Contradiction.{Contradiction}
 use Rattle.answers.specs.declared.Look.{Look}
 use Rattle.answers.specs.declared.Look.the-variants.{Pass, Refuse}
-use Rattle.answers.specs.declared.Refusal.the-variants.{Contradicted, ShortRoom, Unforced}
+use Rattle.refusals.specs.declared.Refusal.the-variants.{Contradicted, ShortRoom, Unforced}
 use Rattle.checking.specs.Checks.{candidateLooks, checkLooks, firstDiffers, firstUnsure, lookPC, triplesLooks}
 use Rattle.loosening.specs.Loosens.{loosenLooks}
 use Rattle.promises.specs.Demand1.{Demand1}

@@ -9,7 +9,7 @@ use native.Mathlib.Omega.{arith}
 use lib.ListN.{length}
 use Rattle.sets.proofs.Least.{some-member}
 use Rattle.sets.proofs.Members.{members-more}
-use Rattle.sets.proofs.Sizes.{size-members}
+use Rattle.sets.proofs.Sizes.{not-empty, size-members}
 use Rattle.sets.proofs.Tests.{number-is, number-lt, true-has}
 use Rattle.sets.specs.Sets.{Has, has, number, size}
 use Rattle.sets.specs.Species.{Below, Inside, Species, members}
@@ -22,13 +22,13 @@ use Rattle.trees.specs.Trees.{Tree, inHouseOrder}
 use Rattle.tables.proofs.Bytes.{entered-proper}
 use Rattle.tables.specs.Bytes.{entered}
 use Rattle.bodies.specs.Draws.{bodyOf, nodeCount, treeOf, written}
-use Rattle.answers.specs.Answers as Answers
-use Rattle.answers.specs.Answers.{looked-count, node-count, told, value}
+use Rattle.refusals.specs.Told as Answers
+use Rattle.refusals.specs.Told.{looked-count, node-count, told, value}
 use Rattle.answers.proofs.Answered.{first-on, then-nothing}
 use Rattle.answers.specs.Looks.{firstRefusal}
-use Rattle.building.proofs.Chosen.{set-below}
-use Rattle.growing.proofs.Numbered.{not-empty}
-use Rattle.building.specs.Builds.{buildLooks, inputLooks, lookOutcome, lookedBy, outcome, outcomeBy}
+use Rattle.admitting.proofs.Chosen.{set-below}
+use Rattle.admitting.specs.GoodSet.{inputLooks}
+use Rattle.building.specs.Builds.{buildLooks, lookOutcome, lookedBy, outcome, outcomeBy}
 use Rattle.promises.specs.Operations.{Given, builds, gives}
 use Rattle.promises.specs.Inputs.{Buildable}
 use Rattle.promises.specs.Demand2.{BuildsRight, front}

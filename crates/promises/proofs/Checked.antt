@@ -16,24 +16,24 @@ use Rattle.trees.specs.Check.{PC, PI, differs, sure, unsure}
 use Rattle.trees.specs.Trees.{Tree, under, wellFormed}
 use Rattle.trees.specs.Triplets.{Triplets, holds, onTriple}
 use Rattle.tables.proofs.Bytes.{entered-proper}
-use Rattle.tables.proofs.Find.{first-found}
-use Rattle.tables.proofs.Indices.{triple-back}
+use Rattle.triples.proofs.Find.{first-found}
+use Rattle.triples.proofs.Indices.{triple-back}
 use Rattle.checking.proofs.Passing.{pc-first, pi-first}
 use Rattle.tables.specs.Bytes.{entered}
-use Rattle.tables.specs.Find.{firstTriple}
-use Rattle.tables.specs.Index.{C, highAt, lowAt, midAt}
+use Rattle.triples.specs.Find.{firstTriple}
+use Rattle.triples.specs.Index.{C, highAt, lowAt, midAt}
 use Rattle.bodies.proofs.Drawn.{tree-below, tree-formed}
-use Rattle.bodies.proofs.Rules.{length-good}
+use Rattle.bodies.proofs.Good.{length-good}
 use Rattle.bodies.specs.Draws.{treeOf}
 use Rattle.bodies.specs.Nodes.{nodes}
 use Rattle.answers.proofs.Answered.{first-on, pass-false, pass-one, told-first}
-use Rattle.answers.specs.Answers.{Told}
+use Rattle.refusals.specs.Told.{Told}
 use Rattle.answers.specs.Looks as Looks
 use Rattle.answers.specs.Looks.{answered, lookTold, refuseIf}
 use Rattle.answers.specs.declared.Look.{Look}
 use Rattle.answers.specs.declared.Look.the-variants.{Pass}
-use Rattle.answers.specs.declared.Refusal.the-variants.{Contradicted}
-use Rattle.answers.specs.declared.Refusal.the-variants.{Unforced as Unforced′}
+use Rattle.refusals.specs.declared.Refusal.the-variants.{Contradicted}
+use Rattle.refusals.specs.declared.Refusal.the-variants.{Unforced as Unforced′}
 use Rattle.checking.specs.Checks.{candidateLooks, checkLooks, checkTold, firstDiffers, firstUnsure, lookPC, lookPI, triplesLooks}
 use Rattle.checking.specs.declared.Answer.{Answer}
 use Rattle.checking.specs.declared.Answer.the-variants.{Passes, Refused}

@@ -7,12 +7,12 @@ use native.Mathlib.Omega.{arith}
 use borrow.Author.Tests.{ne-eqb}
 use lib.ListN.{length, length-append}
 use Rattle.answers.proofs.Answered.{kept, number-zero, told-first}
-use Rattle.answers.specs.Answers.{Name, Told, Value, node-count, told, value}
+use Rattle.refusals.specs.Told.{Name, Told, Value, node-count, told, value}
 use Rattle.answers.specs.Looks.{Settled, after, answered, firstRefusal, lookTold}
-use Rattle.answers.specs.Refusals.{refusalTold}
+use Rattle.refusals.specs.Refusals.{refusalTold}
 use Rattle.answers.specs.declared.Look.{Look}
 use Rattle.answers.specs.declared.Look.the-variants.{Pass, Refuse}
-use Rattle.answers.specs.declared.Refusal.{Refusal}
+use Rattle.refusals.specs.declared.Refusal.{Refusal}
 use Rattle.answers.specs.declared.Written.{Written}
 use Rattle.building.specs.Builds.{buildTold, countedDone, countedRefused}
 use Rattle.promises.specs.Operations.{gives}
@@ -59,4 +59,7 @@ last-same (u ∷ us) (v ∷ vs) x y e =
 
 -- where values are told, the first is known by its number
 pub value-is : {j : ℕ} {x : Name} (k m : ℕ) {l l′ : List Value} → told j (value x k ∷ l) ≡ told j (value x m ∷ l′) → k ≡ m
-value-is {x = x} k m {l} {l′} e = let v : (value x k ∷ l) ≡ (value x m ∷ l′) = ap (λ (t : Told). t .values) e in cc
+value-is {x = x} k m {l} {l′} e =
+    let v : (value x k ∷ l) ≡ (value x m ∷ l′) = ap (λ (t : Told). t .values) e in
+    let q : value x k ≡ value x m = cc in
+    ap (λ (u : Value). u .number) q

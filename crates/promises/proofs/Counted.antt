@@ -9,7 +9,7 @@ use borrow.Author.Tests.{eqb-false, eqb-true, ne-eqb}
 use lib.Dec.{eqb}
 use lib.ListN.{length}
 use Rattle.sets.proofs.Least.{some-member}
-use Rattle.sets.proofs.Sizes.{size-members}
+use Rattle.sets.proofs.Sizes.{not-empty, size-members}
 use Rattle.sets.proofs.Tests.{true-has}
 use Rattle.sets.specs.Sets.{Has, has, size}
 use Rattle.trees.proofs.CountTheorems.{looked-64, looked-most, nested-reach, plain-first}
@@ -19,11 +19,11 @@ use Rattle.trees.specs.Visits.{looked, triples, visited}
 use Rattle.tables.proofs.Bytes.{entered-proper}
 use Rattle.tables.specs.Bytes.{entered}
 use Rattle.bodies.specs.Draws.{treeOf}
-use Rattle.answers.specs.Answers.{Told, looked-count, value}
+use Rattle.refusals.specs.Told.{Told, Value, looked-count, value}
 use Rattle.answers.specs.Looks.{firstRefusal, lookTold}
-use Rattle.building.proofs.Chosen.{set-below, set-small}
-use Rattle.growing.proofs.Numbered.{not-empty}
-use Rattle.building.specs.Builds.{buildLooks, inputLooks, lookedBy, outcome}
+use Rattle.admitting.proofs.Chosen.{set-below, set-small}
+use Rattle.admitting.specs.GoodSet.{inputLooks}
+use Rattle.building.specs.Builds.{buildLooks, lookedBy, outcome}
 use Rattle.building.specs.Vetoes.{vetoed}
 use Rattle.promises.specs.Counting.{AtMost, Counting, Counts, CountsAll, Looked, NestedReach, NoMore, OneCounting, OthersNone, SaysNested, TreesReach}
 use Rattle.promises.specs.Demand1.{Demand1, withLooked}
@@ -38,7 +38,7 @@ use Rattle.promises.proofs.Rebuilt.{formed, its-buildable, its-exact}
 -- ---- what is told for it is one
 
 pub looked-one : (r : Told) (c d : ℕ) → Looked r c → Looked r d → c ≡ d
-looked-one r c d x y = let q = last-same (x .0) (y .0) (value looked-count c) (value looked-count d) (sym (x .1) ∙ y .1) .1 in cc
+looked-one r c d x y = ap (λ (v : Value). v .number) (last-same (x .0) (y .0) (value looked-count c) (value looked-count d) (sym (x .1) ∙ y .1) .1)
 
 pub one-counting : OneCounting
 one-counting v f h a b n s t o g c d x y = looked-one (f n s t o .told) c _ x (a n s t o g) ∙ looked-one (h n s t o .told) _ d (b n s t o g) y

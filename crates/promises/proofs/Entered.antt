@@ -17,8 +17,9 @@ use Rattle.trees.specs.Triplets.{Proper, only}
 use Rattle.tables.proofs.Telling.{table-tells, told-as, told-is}
 use Rattle.tables.specs.Bytes.{entered}
 use Rattle.tables.specs.Filled.{plain, tableFor}
-use Rattle.answers.specs.Answers.{told}
-use Rattle.entering.specs.Enters.{entry, entryValues, inRecord, inRecords, left, occursIn, outer, right}
+use Rattle.refusals.specs.Told.{told}
+use Rattle.records.specs.Records.{inRecord, inRecords, left, occursIn, outer, right}
+use Rattle.entering.specs.Enters.{entry, entryValues}
 use Rattle.promises.specs.Operations.{Given, enters, gives}
 use Rattle.answers.specs.Inputs.{Count, Table}
 use Rattle.promises.specs.Inputs.{Enterable, Triplet}

@@ -10,7 +10,7 @@ use Rattle.sets.proofs.Tests.{has-upto, true-has}
 use Rattle.sets.specs.Sets.{upto}
 use Rattle.sets.specs.Species.{Species}
 use Rattle.outside.specs.Reaches.{Enclosed}
-use Rattle.building.specs.GoodSet.{GoodSet}
+use Rattle.admitting.specs.GoodSet.{GoodSet}
 
 pub all-set : (n : ℕ) → 0 < n → GoodSet n (upto n)
 all-set n some = record { some = omega (arith, size-upto n); below = λ x h. ltb-true x n (ap (λ (S : Species). S x) (sym (has-upto n)) ∙ true-has (upto n) x h) }

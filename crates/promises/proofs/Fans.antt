@@ -17,22 +17,23 @@ use Rattle.trees.specs.Visits.{looked}
 use Rattle.tables.proofs.Limits.{small-exactly}
 use Rattle.tables.proofs.Places.{bit-most}
 use Rattle.tables.specs.Bytes.{Small, bitOf, entered, placeOf}
-use Rattle.tables.specs.Find.{firstTriple}
-use Rattle.tables.specs.Index.{C}
+use Rattle.triples.specs.Find.{firstTriple}
+use Rattle.triples.specs.Index.{C}
 use Rattle.bodies.specs.Draws.{treeOf}
 use Rattle.bodies.specs.Nodes.{roomFor}
 use Rattle.outside.specs.Reaches.{Enclosed}
 use Rattle.answers.proofs.Answered.{first-append}
-use Rattle.answers.specs.Answers.{Told}
+use Rattle.refusals.specs.Told.{Told}
 use Rattle.answers.specs.Looks.{after, andThen, answered, firstRefusal, lookBytes, lookCount, lookLength, lookRoom, lookRules, lookTable, refuseIf}
 use Rattle.answers.specs.declared.Look.{Look}
 use Rattle.answers.specs.declared.Look.the-variants.{Pass, Refuse}
-use Rattle.answers.specs.declared.Refusal.the-variants.{Contradicted, Unforced}
-use Rattle.building.proofs.Chosen.{outside-pass}
+use Rattle.refusals.specs.declared.Refusal.the-variants.{Contradicted, Unforced}
+use Rattle.admitting.proofs.Chosen.{outside-pass}
 use Rattle.building.specs.Builds.{buildDone, buildRoom, buildTold, countedDone, countedRefused, lookOutcome, lookedBy, outcomeBy}
-use Rattle.building.specs.GoodSet.{lookOutside, lookSet}
+use Rattle.admitting.specs.GoodSet.{lookOutside, lookSet}
 use Rattle.checking.specs.Checks.{checkTold, firstDiffers, firstUnsure, lookPC, lookPI, triplesLooks}
-use Rattle.loosening.specs.Loosens.{Lent, eased, laidOut, lent, loosenTold, tally}
+use Rattle.easing.specs.Eases.{Lent, eased, laidOut, lent, tally}
+use Rattle.loosening.specs.Loosens.{loosenTold}
 use Rattle.loosening.specs.declared.Answer as Loosening
 use Rattle.checking.specs.declared.Answer.{Answer}
 use Rattle.checking.specs.declared.Answer.the-variants.{Passes, Refused}

@@ -21,16 +21,17 @@ use Rattle.tables.proofs.Bytes.{entered-proper}
 use Rattle.tables.specs.Bytes.{entered}
 use Rattle.bodies.proofs.Drawn.{tree-below}
 use Rattle.bodies.proofs.Houses.{good-formed}
-use Rattle.bodies.proofs.Rules.{length-good}
+use Rattle.bodies.proofs.Good.{length-good}
 use Rattle.bodies.specs.Draws.{treeOf}
 use Rattle.bodies.specs.Nodes.{nodes}
-use Rattle.answers.specs.Answers.{Told}
+use Rattle.refusals.specs.Told.{Told}
 use Rattle.promises.specs.Demand2.{front}
 use Rattle.promises.specs.Finest.{DropsAny, Finest, OneLeft, any-done, any-next}
 use Rattle.promises.specs.Loosening.{Drops, TreeWithout, done, next}
 use Rattle.promises.specs.Operations.{koodhaxil, loosens}
 use Rattle.promises.proofs.Checked.{checked-passes}
-use Rattle.promises.proofs.Loosened.{good-loosened, values-are}
+use Rattle.promises.proofs.Chosen.{value-is}
+use Rattle.promises.proofs.Loosened.{good-loosened}
 use Rattle.promises.proofs.Promises.{accepted}
 
 -- the root's group is none of those that go
@@ -91,12 +92,12 @@ finest = record {
       let (g, pc) = accepted .loosening n t b o d .0 (ap (λ (r : Told). r .number) e) in
       let r = good-loosened n t b o d g pc in
       let h = house-order (treeOf b) (good-formed n (g .count .most) b (g .body .good) (g .body .long)) in
-      let c = values-are (r .count) m _ k (sym (r .told-is) ∙ e) in
+      let c = value-is (r .count) m (sym (r .told-is) ∙ e) in
       subst (λ (j : ℕ). treeOf (front j (loosens n t b o d .after .room)) ≡ F) c (one-left (entered t) (house (treeOf b)) _ F _ l (h .formed) (h .ordered) (drops-any (r .went)) q);
   all-groups = λ n m k t b o d e p z s among H x.
       let (g, pc) = accepted .loosening n t b o d .0 (ap (λ (r : Told). r .number) e) in
       let r = good-loosened n t b o d g pc in
-      let c = values-are (r .count) m _ k (sym (r .told-is) ∙ e) in
+      let c = value-is (r .count) m (sym (r .told-is) ∙ e) in
       let h = house-order (treeOf b) (good-formed n (g .count .most) b (g .body .good) (g .body .long)) in
       let a = accepted .checking n t p .0 (inl z) in
       let v = good-formed n (a .count .most) p (a .body .good) (a .body .long) in

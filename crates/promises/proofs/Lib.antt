@@ -33,5 +33,3 @@ pub mod UselessCounts
 pub mod Own
 pub mod Occurring
 pub mod Fans
-pub mod Ties
-pub mod Forms

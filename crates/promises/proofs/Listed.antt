@@ -17,10 +17,10 @@ use Rattle.trees.specs.Triplets.{Proper, fan, holds}
 use Rattle.tables.proofs.Telling.{table-tells, told-as, told-is}
 use Rattle.tables.specs.Bytes.{entered}
 use Rattle.bodies.proofs.Drawn.{tree-below}
-use Rattle.bodies.proofs.Rules.{length-good}
+use Rattle.bodies.proofs.Good.{length-good}
 use Rattle.bodies.specs.Draws.{treeOf}
 use Rattle.bodies.specs.Nodes.{nodes}
-use Rattle.answers.specs.Answers.{told}
+use Rattle.refusals.specs.Told.{told}
 use Rattle.answers.specs.Inputs.{Table}
 use Rattle.collections.proofs.Whole.{read-pass, whole-long}
 use Rattle.collections.specs.Collection.{Collection}

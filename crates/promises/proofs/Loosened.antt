@@ -22,17 +22,18 @@ use Rattle.bodies.proofs.Back.{body-back, body-badLength, body-good, body-lengt
 use Rattle.bodies.proofs.Counts.{all-nodes}
 use Rattle.bodies.proofs.Drawn.{tree-below, tree-formed}
 use Rattle.bodies.proofs.Housed.{house-count}
-use Rattle.bodies.proofs.Rules.{length-good}
+use Rattle.bodies.proofs.Good.{length-good}
 use Rattle.bodies.proofs.Written.{written-behind, written-body}
 use Rattle.bodies.specs.Draws.{bodyOf, nodeCount, treeOf, written}
 use Rattle.bodies.specs.Nodes.{bodyLength, nodes}
 use Rattle.answers.proofs.Answered.{number-zero}
-use Rattle.answers.specs.Answers.{Told, dropped-count, node-count, told, value}
+use Rattle.refusals.specs.Told.{Told, dropped-count, node-count, told, value}
 use Rattle.answers.specs.Inputs.{Body}
 use Rattle.answers.specs.Looks.{firstRefusal, lookTold}
 use Rattle.answers.specs.declared.Look.{Look}
 use Rattle.checking.specs.Checks.{checkLooks}
-use Rattle.loosening.specs.Loosens.{Lent, eased, laidOut, lent, numbers, tally, tallyValues}
+use Rattle.easing.specs.Eases.{Lent, eased, laidOut, lent, numbers, tally}
+use Rattle.loosening.specs.Loosens.{tallyValues}
 use Rattle.promises.specs.Demand2.{HouseBody, front}
 use Rattle.promises.specs.Inputs.{Loosenable}
 use Rattle.promises.specs.Loosening.{ComesBack, Drops, FinalPasses, Loosening, LoosensRight, OneLoosening}
@@ -40,6 +41,7 @@ use Rattle.promises.specs.Operations.{GivenOf, checks, gives, koodhaxil,
 use Rattle.promises.proofs.Accepted.{loosen-pass}
 use Rattle.promises.proofs.AsCheck.{refuses-as-check, then-nine}
 use Rattle.promises.proofs.Checked.{checked-passes}
+use Rattle.promises.proofs.Chosen.{value-is}
 use Rattle.promises.proofs.Drops.{drops-one, loosened-drops}
 use Rattle.promises.proofs.Fewer.{fewer-nodes}
 use Rattle.promises.proofs.Promises.{accepted, demand1}
@@ -166,10 +168,6 @@ module _ (n : ℕ) (t b o d : List ℕ) (g : Loosenable n t b o d) (pc : PC (ent
 
 -- ---- where two keep it, what they give is one
 
--- two values that are told are known by their numbers
-pub values-are : (k k′ m m′ : ℕ) → told 0 (value node-count k ∷ value dropped-count m ∷ []) ≡ told 0 (value node-count k′ ∷ value dropped-count m′ ∷ []) → k ≡ k′
-values-are k k′ m m′ e = let v : (value node-count k ∷ (value dropped-count m ∷ [])) ≡ (value node-count k′ ∷ (value dropped-count m′ ∷ [])) = ap (λ (r : Told). r .values) e in cc
-
 -- a list is known by its first k places and what stands behind
 list-is : (k : ℕ) (u v x y : List ℕ) → take k u ≡ x → take k v ≡ x → drop k u ≡ drop k y → drop k v ≡ drop k y → u ≡ v
 list-is k u v x y a b c d = sym (take-append-drop k u) ∙ ap₂ (λ (p q : List ℕ). p ++ q) (a ∙ sym b) (c ∙ sym d) ∙ take-append-drop k v
@@ -198,7 +196,7 @@ final-passes : FinalPasses loosens checks
 final-passes n m k t b o d e =
     let (g, pc) = accepted .loosening n t b o d .0 (ap (λ (r : Told). r .number) e) in
     let q = loosens-is n t b o d g pc in
-    let c = values-are _ m _ k (sym (ap (λ (h : GivenOf Lent). h .told) q) ∙ e) in
+    let c = value-is _ m (sym (ap (λ (h : GivenOf Lent). h .told) q) ∙ e) in
     ap₂ (λ (j : ℕ) (h : GivenOf Lent). checks n t (front j (h .after .room))) (sym c) q ∙ final-checked n t b o d g pc
 
 comes-back : ComesBack loosens checks

@@ -23,19 +23,21 @@ use Rattle.bodies.specs.Nodes.{roomFor}
 use Rattle.outside.specs.Reaches.{Enclosed}
 use Rattle.answers.proofs.Answered.{first-on}
 use Rattle.answers.proofs.Good.{count-pass, table-pass}
-use Rattle.answers.specs.Answers.{Told, Value, node-count, value}
+use Rattle.refusals.specs.Told.{Told, Value, node-count, unnamed, value}
 use Rattle.answers.specs.Inputs.{Count, Table}
-use Rattle.answers.specs.Looks.{firstRefusal, lookBytes, lookCount, lookRoom, lookTable, lookTold, refuseIf}
+use Rattle.answers.specs.Looks.{answered, firstRefusal, lookBytes, lookCount, lookRoom, lookTable, lookTold, refuseIf}
 use Rattle.answers.specs.declared.Look.{Look}
-use Rattle.answers.specs.declared.Look.the-variants.{Pass}
-use Rattle.answers.specs.declared.Refusal.the-variants.{ShortRoom}
-use Rattle.building.proofs.Chosen.{outside-pass, set-pass}
-use Rattle.building.specs.Builds.{buildDone, buildLooks, lookOutcome, lookedBy, nodesIn, outcome}
-use Rattle.building.specs.GoodSet.{GoodSet, lookOutside, lookSet}
+use Rattle.answers.specs.declared.Look.the-variants.{Pass, Refuse}
+use Rattle.refusals.specs.declared.Refusal.the-variants.{BadSet, ShortRoom}
+use Rattle.admitting.proofs.Chosen.{outside-pass, set-pass}
+use Rattle.building.specs.Builds.{answerTold, buildAnswer, buildDone, buildLooks, countedDone, countedRefused, lookOutcome, lookedBy, nodesIn, outcome}
+use Rattle.building.specs.declared.Answer.{Answer}
+use Rattle.building.specs.declared.Answer.the-variants.{Refused}
+use Rattle.admitting.specs.GoodSet.{GoodSet, lookOutside, lookSet}
 use Rattle.collections.specs.Collection.{Collection}
 use Rattle.collections.specs.Layout.{bodyAt, species, trees}
 use Rattle.collections.specs.Occurs.{occurring}
-use Rattle.entering.specs.Enters.{inRecords, occursIn}
+use Rattle.records.specs.Records.{inRecords, occursIn}
 use Rattle.listing.specs.Lists.{listOf, saidUpTo}
 use Rattle.promises.specs.Inputs.{Triplet}
 use Rattle.promises.specs.Operations.{Given, builds, enters, koodhaxil, lists}
@@ -74,8 +76,15 @@ module _ (n u : ℕ) (t : List ℕ) (c : Count n) (g : Table n t) where
     told-late = ap (λ (r : Told). r .number) (told-looked (lookedBy false n u t) (buildDone (outcome n u t)) (firstRefusal (buildLooks n u t (length o))))
         ∙ ap (λ (k : Look). lookTold k counts .number) (first-on front late front-pass)
 
+    -- where the set is empty, the answer is 15
+    pub empty-refused : u ≡ 0 → buildAnswer n u t (length o) .answer ≡ Refused BadSet
+    empty-refused e =
+        let q : firstRefusal late ≡ Refuse BadSet = rw e refl in
+        let c = lookedBy false n u t in
+        ap (λ (k : Look). answered (countedDone c) (countedRefused c) k (buildDone (outcome n u t)) .answer) (first-on front late front-pass ∙ q)
+
     told-empty : u ≡ 0 → builds n u t o .told .number ≡ 15
-    told-empty e = told-late ∙ rw e refl
+    told-empty e = ap (λ (a : Answer). answerTold a .number) (empty-refused e)
 
     told-taken : GoodSet n u → Enclosed n u t → (builds n u t o .told .number ≢ 15) × (builds n u t o .told .number ≢ 16)
     told-taken s e =
@@ -137,14 +146,14 @@ occurring-taken = record {
       let g = accepted .listing b t .0 (ap (λ (r : Told). r .number) e) in
       let q = lists-is b t g in
       let v = sym (ap (λ (h : Given). h .told .values) q) ∙ ap (λ (r : Told). r .values) e in
-      let z : occurring b ≡ u = cc in
+      let z : occurring b ≡ u = ap (λ (l : List Value). getD (unnamed l) 2 0) v in
       subst (λ (k : ℕ). Taken koodhaxil (species b) k (lists b t .after)) z
       (subst (λ (a : List ℕ). Taken koodhaxil (species b) (occurring b) a) (sym (ap (λ (h : Given). h .after) q)) (listed-taken b (g .collection)));
   entered = λ n rs t u e.
       let g = accepted .entering n rs t .0 (ap (λ (r : Told). r .number) e) in
       let q = enters-is n rs t g in
       let v = sym (ap (λ (h : Given). h .told .values) q) ∙ ap (λ (r : Told). r .values) e in
-      let z : number 64 (occursIn rs) ≡ u = cc in
+      let z : number 64 (occursIn rs) ≡ u = ap (λ (l : List Value). getD (unnamed l) 1 0) v in
       subst (λ (k : ℕ). Taken koodhaxil n k (enters n rs t .after)) z
       (subst (λ (a : List ℕ). Taken koodhaxil n (number 64 (occursIn rs)) a) (sym (ap (λ (h : Given). h .after) q)) (entered-taken n rs (g .count) (g .records)));
 }

@@ -8,10 +8,10 @@ use lib.ListN.{length}
 use Rattle.trees.proofs.Theorems.{HouseOrder, house-order}
 use Rattle.trees.specs.Trees.{SameGroups, Tree, house, inHouseOrder}
 use Rattle.bodies.proofs.Houses.{good-formed, ordered-badLength, ordered-good, ordered-length, ordered-tree}
-use Rattle.bodies.proofs.Rules.{length-good}
+use Rattle.bodies.proofs.Good.{length-good}
 use Rattle.bodies.specs.Draws.{bodyOf, ordered, treeOf, written}
 use Rattle.bodies.specs.Nodes.{bodyLength, nodes}
-use Rattle.answers.specs.Answers.{node-count, told, value}
+use Rattle.refusals.specs.Told.{node-count, told, value}
 use Rattle.promises.specs.Operations.{Given, gives, orders}
 use Rattle.answers.specs.Inputs.{Body, Count}
 use Rattle.promises.specs.Inputs.{Orderable}

@@ -3,7 +3,7 @@
 use mathlib.Core.Logic.{_⊎_}
 use mathlib.Core.Path.{_∙_, _≡_, ap, subst}
 use native.Mathlib.Omega.{arith}
-use Rattle.answers.specs.Answers.{Told}
+use Rattle.refusals.specs.Told.{Told}
 use Rattle.promises.specs.Demand2.{front}
 use Rattle.promises.specs.Operations.{Given, checks, koodhaxil}
 use Rattle.promises.specs.Together.{BuiltChecked}

@@ -15,7 +15,7 @@ use Rattle.trees.specs.Trees.{under}
 use Rattle.tables.proofs.Bytes.{entered-proper}
 use Rattle.tables.specs.Bytes.{entered}
 use Rattle.bodies.specs.Draws.{treeOf}
-use Rattle.answers.specs.Answers.{Told}
+use Rattle.refusals.specs.Told.{Told}
 use Rattle.promises.specs.Demand2.{ChecksRight, Contradicts}
 use Rattle.promises.specs.Inputs.{Checkable}
 use Rattle.promises.specs.Operations.{koodhaxil}

@@ -11,19 +11,19 @@ use Rattle.trees.specs.Trees.{Tree}
 use Rattle.bodies.proofs.Back.{body-count, body-length, drawn-back, good-length}
 use Rattle.bodies.proofs.Laid.{count-pos}
 use Rattle.bodies.specs.Draws.{bodyOf, nodeCount, treeOf, written}
-use Rattle.bodies.specs.Faults.{fault}
+use Rattle.rules.specs.Faults.{fault}
 use Rattle.bodies.specs.Nodes.{badLength, bodyLength, nodes}
 use Rattle.bodies.specs.declared.Verdict.{Verdict}
 use Rattle.bodies.specs.declared.Verdict.the-variants.{Breaks, Fine}
 use Rattle.newick.specs.Texts.{Readable, RefusedAt}
 use Rattle.answers.proofs.Answered.{first-on, first-stop, told-first}
 use Rattle.answers.proofs.Good.{count-pass}
-use Rattle.answers.specs.Answers.{Told, Value, byte-place, node-count, told, value}
+use Rattle.refusals.specs.Told.{Told, Value, byte-place, node-count, told, value}
 use Rattle.answers.specs.Inputs.{Body, Count}
 use Rattle.answers.specs.Looks.{firstRefusal, lookCount, lookTold, refuseIf, ruled}
 use Rattle.answers.specs.declared.Look.{Look}
 use Rattle.answers.specs.declared.Look.the-variants.{Pass, Refuse}
-use Rattle.answers.specs.declared.Refusal.the-variants.{BadText, ShortRoom}
+use Rattle.refusals.specs.declared.Refusal.the-variants.{BadText, ShortRoom}
 use Rattle.parsing.proofs.Texts.{text-body, text-fourteen, text-pass, text-refused, textLooks}
 use Rattle.parsing.specs.Parses.{bodyLooks, parseDone, parseLooks, parseTold, textBody}
 use Rattle.parsing.specs.declared.Answer.the-variants.{Done, Refused}

@@ -17,10 +17,12 @@ use Rattle.entering.specs.Enters.{enterLooks, enterTold, entry}
 use Rattle.ordering.specs.Orders.{orderLooks, orderTold}
 use Rattle.parsing.specs.Parses.{parseDone, parseLooks, parseTold}
 use Rattle.rendering.specs.Renders.{renderDone, renderLooks, renderTold}
-use Rattle.building.specs.Builds.{buildDone, buildLooks, inputLooks, lookedBy, outcome}
+use Rattle.admitting.specs.GoodSet.{inputLooks}
+use Rattle.building.specs.Builds.{buildDone, buildLooks, lookedBy, outcome}
 use Rattle.building.specs.Vetoes.{vetoLooked, vetoed}
 use Rattle.checking.specs.Checks.{checkLooks}
-use Rattle.loosening.specs.Loosens.{eased, lent, loosenLooks, loosenTold, tally}
+use Rattle.easing.specs.Eases.{eased, lent, tally}
+use Rattle.loosening.specs.Loosens.{loosenLooks, loosenTold}
 use Rattle.promises.specs.Accepts.{Accepts}
 use Rattle.promises.specs.Operations.{koodhaxil}
 use Rattle.promises.specs.Demand1.{Demand1}

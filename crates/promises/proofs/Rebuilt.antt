@@ -23,15 +23,15 @@ use Rattle.tables.proofs.Bytes.{entered-proper}
 use Rattle.tables.proofs.Known.{known-by-table}
 use Rattle.tables.specs.Bytes.{entered}
 use Rattle.tables.specs.Filled.{saidBy, tableFor}
-use Rattle.tables.specs.Index.{C}
+use Rattle.triples.specs.Index.{C}
 use Rattle.bodies.proofs.Drawn.{tree-below}
 use Rattle.bodies.proofs.Houses.{good-formed}
-use Rattle.bodies.proofs.Rules.{length-good}
+use Rattle.bodies.proofs.Good.{length-good}
 use Rattle.bodies.specs.Draws.{nodeCount, ordered, treeOf, written}
 use Rattle.bodies.specs.Nodes.{nodes, roomFor}
 use Rattle.outside.specs.Reaches.{Enclosed}
 use Rattle.building.specs.Builds.{lookedBy, outcome, outcomeBy}
-use Rattle.building.specs.GoodSet.{GoodSet}
+use Rattle.admitting.specs.GoodSet.{GoodSet}
 use Rattle.promises.specs.Operations.{Given, builds, lists}
 use Rattle.answers.specs.Inputs.{Count, Table}
 use Rattle.promises.specs.Inputs.{Buildable}

@@ -10,7 +10,7 @@ use Rattle.bodies.proofs.Houses.{ordered-length}
 use Rattle.bodies.proofs.Written.{written-behind, written-body}
 use Rattle.bodies.specs.Draws.{ordered, treeOf, written}
 use Rattle.bodies.specs.Nodes.{nodes}
-use Rattle.answers.specs.Answers.{node-count, text-length, told, value}
+use Rattle.refusals.specs.Told.{node-count, text-length, told, value}
 use Rattle.answers.specs.Inputs.{Body, Count}
 use Rattle.rendering.proofs.Texts.{body-form, body-longest, body-within, same-text}
 use Rattle.rendering.proofs.Vectors.{longest-reached}

@@ -15,19 +15,19 @@ use Rattle.trees.specs.Trees.{Tree, cons, leaf, nil, node}
 use Rattle.trees.specs.Visits.{looked, visited, visitedIn}
 use Rattle.tables.proofs.Limits.{small-exactly}
 use Rattle.tables.specs.Bytes.{bitOf, entered, over, placeOf, wrongByte}
-use Rattle.tables.specs.Find.{at, firstTriple, firstFrom}
-use Rattle.tables.specs.Index.{C, highAt, index, largest, lowAt, midAt}
-use Rattle.bodies.proofs.Rules.{no-fault}
+use Rattle.triples.specs.Find.{at, firstTriple, firstFrom}
+use Rattle.triples.specs.Index.{C, highAt, index, largest, lowAt, midAt}
+use Rattle.rules.proofs.Rules.{no-fault}
 use Rattle.bodies.specs.Draws.{bodyOf, nodeCount, treeAt, treeOf, written}
-use Rattle.bodies.specs.Faults as Faults
+use Rattle.rules.specs.Faults as Faults
 use Rattle.bodies.specs.Nodes.{badLength, children, nodes, roomFor}
 use Rattle.bodies.specs.declared.Verdict.the-variants.{Fine}
-use Rattle.answers.specs.Answers.{looked-count, node-count, stopping-set, told, value}
+use Rattle.refusals.specs.Told.{looked-count, node-count, stopping-set, told, value}
 use Rattle.answers.specs.Looks as Looks
 use Rattle.answers.specs.Looks.{lookTold}
 use Rattle.answers.specs.declared.Look.{Look}
 use Rattle.answers.specs.declared.Look.the-variants.{Pass, Refuse}
-use Rattle.answers.specs.declared.Refusal.the-variants.{Contradicted, Unforced}
+use Rattle.refusals.specs.declared.Refusal.the-variants.{Contradicted, Unforced}
 use Rattle.building.specs.Builds.{lookedBy, outcome, outcomeBy}
 use Rattle.checking.specs.Checks.{firstDiffers, firstUnsure, triplesLooks}
 use Rattle.promises.specs.Operations.{builds, checks, gives}

@@ -1,7 +1,7 @@
 -- From any papers to a tree that may be sent: it follows from what is promised of the veto build and of loosening. Assumes nothing.
 use native.Mathlib.Omega.{arith}
 use lib.ListN.{length}
-use Rattle.bodies.proofs.Rules.{length-good}
+use Rattle.bodies.proofs.Good.{length-good}
 use Rattle.promises.specs.Loosening.{Loosening}
 use Rattle.promises.specs.Operations.{Operations, koodhaxil}
 use Rattle.promises.specs.Sent.{AnyPapers}

@@ -14,7 +14,7 @@ use Rattle.tables.proofs.Fillings.{table-length, table-says, table-small}
 use Rattle.tables.proofs.Telling.{table-tells}
 use Rattle.tables.specs.Bytes.{entered, fanBit}
 use Rattle.tables.specs.Filled.{Said, tableFor}
-use Rattle.tables.specs.Index.{C, index}
+use Rattle.triples.specs.Index.{C, index}
 use Rattle.trees.specs.Triplets.{Proper, Triplets}
 use Rattle.outside.specs.Reaches.{Enclosed}
 use Rattle.answers.specs.Inputs.{Table}

@@ -12,7 +12,7 @@ use lib.ListN.{getD, length, take}
 use Rattle.sets.proofs.Bools.{bool-ext}
 use Rattle.sets.proofs.Digits.{lt-of-has}
 use Rattle.sets.proofs.Least.{some-member}
-use Rattle.sets.proofs.Sizes.{size-upto}
+use Rattle.sets.proofs.Sizes.{not-empty, size-upto}
 use Rattle.sets.proofs.Tests.{has-below, has-upto, true-has}
 use Rattle.sets.specs.Sets.{digit, has, size}
 use Rattle.sets.specs.Species.{Below, Species, below, members}
@@ -26,19 +26,18 @@ use Rattle.trees.specs.Trees.{SameGroups, Tree, cons, inHouseOrder, leaf, nil, 
 use Rattle.tables.proofs.Bytes.{entered-empty, entered-proper, entered-zeros}
 use Rattle.tables.specs.Bytes.{bitOf, entered, fanBit, over, placeOf}
 use Rattle.tables.specs.Filled.{bytesFrom, plain, tableFor}
-use Rattle.tables.specs.Index.{C, highAt, index, largest, lowAt, midAt}
-use Rattle.bodies.proofs.Rules.{no-fault}
+use Rattle.triples.specs.Index.{C, highAt, index, largest, lowAt, midAt}
+use Rattle.rules.proofs.Rules.{no-fault}
 use Rattle.bodies.specs.Draws.{bodyOf, nodeCount, treeAt, treeOf, written}
-use Rattle.bodies.specs.Faults.{fault, firstBreak, seen}
+use Rattle.rules.specs.Faults.{fault, firstBreak, seen}
 use Rattle.bodies.specs.Nodes.{bodyLength, children, nodes, roomFor}
-use Rattle.answers.specs.Answers.{Told, looked-count, node-count, table-byte, told, triple-index, value}
+use Rattle.refusals.specs.Told.{Told, looked-count, node-count, table-byte, told, triple-index, value}
 use Rattle.answers.specs.Inputs.{Body, Count}
 use Rattle.collections.proofs.Whole.{read-pass}
 use Rattle.collections.specs.Collection.{Collection}
 use Rattle.collections.specs.Layout.{start}
 use Rattle.collections.specs.Reads.{looksFrom, readLooks}
 use Rattle.listing.specs.Lists.{saidUpTo}
-use Rattle.growing.proofs.Numbered.{not-empty}
 use Rattle.building.specs.Builds.{lookedBy, outcome, outcomeBy}
 use Rattle.promises.specs.Operations.{Builder, Given, GivenOf, builds, checks, gives, lists}
 use Rattle.promises.specs.Inputs.{Buildable, Listable}

@@ -14,13 +14,13 @@ use Rattle.trees.specs.Combinations.{C}
 use Rattle.trees.specs.Links.{leads, part, parts}
 use Rattle.trees.specs.Visits.{looked, triples, visited, visitedIn}
 use Rattle.tables.specs.Bytes.{bitOf, entered, over, placeOf}
-use Rattle.tables.specs.Find.{at, firstFrom, firstTriple}
-use Rattle.tables.specs.Index.{highAt, index, largest, lowAt, midAt}
+use Rattle.triples.specs.Find.{at, firstFrom, firstTriple}
+use Rattle.triples.specs.Index.{highAt, index, largest, lowAt, midAt}
 use Rattle.bodies.specs.Draws.{treeOf}
 use Rattle.outside.specs.Reaches.{reaches}
-use Rattle.answers.specs.Answers.{Told}
+use Rattle.refusals.specs.Told.{Told}
 use Rattle.building.specs.Builds.{lookedBy, outcomeBy}
-use Rattle.building.specs.GoodSet.{firstOutside}
+use Rattle.admitting.specs.GoodSet.{firstOutside}
 use Rattle.promises.specs.Counting.{CountsAll, Looked}
 use Rattle.promises.specs.Operations.{Builder, Given, builds, vetoes}
 use Rattle.promises.specs.Runs.{fanBody}

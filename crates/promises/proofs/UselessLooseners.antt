@@ -14,15 +14,15 @@ use Rattle.trees.specs.Loosen.{Loosened, loosenIn, loosened}
 use Rattle.trees.specs.Trees.{Group, Tree, cons, groups, house, leaf, nil, node, under}
 use Rattle.trees.specs.Triplets.{Triplets}
 use Rattle.tables.specs.Bytes.{bitOf, entered, over, placeOf}
-use Rattle.tables.specs.Find.{at, firstFrom, firstTriple}
-use Rattle.tables.specs.Index.{C, highAt, index, largest, lowAt, midAt}
-use Rattle.bodies.proofs.Rules.{no-fault}
+use Rattle.triples.specs.Find.{at, firstFrom, firstTriple}
+use Rattle.triples.specs.Index.{C, highAt, index, largest, lowAt, midAt}
+use Rattle.rules.proofs.Rules.{no-fault}
 use Rattle.bodies.specs.Draws.{nodeCount, treeAt, treeOf, written}
-use Rattle.bodies.specs.Faults.{fault, firstBreak, seen}
+use Rattle.rules.specs.Faults.{fault, firstBreak, seen}
 use Rattle.bodies.specs.Nodes.{children, nodes}
-use Rattle.answers.specs.Answers.{dropped-count, node-count, told, value}
+use Rattle.refusals.specs.Told.{dropped-count, node-count, told, value}
 use Rattle.checking.specs.Checks.{firstDiffers}
-use Rattle.loosening.specs.Loosens.{Lent, lent, numbers}
+use Rattle.easing.specs.Eases.{Lent, lent, numbers}
 use Rattle.promises.specs.Demand2.{front}
 use Rattle.promises.specs.Inputs.{Loosenable}
 use Rattle.promises.specs.Loosening.{LoosensAll}
@@ -30,7 +30,8 @@ use Rattle.promises.specs.Operations.{GivenOf, Loosener, gives, loosens}
 use Rattle.promises.specs.Runs.{cherryBody, room}
 use Rattle.promises.specs.UselessLooseners.{DroppingAllBreaks, DroppingNoneBreaks, EachBreaks, OnePassBreaks, Strays, StrayingBreaks, flattened, inOrder, laying, passedOver, swept, untouched}
 use Rattle.promises.proofs.Accepted.{pc-pass}
-use Rattle.promises.proofs.Loosened.{good-loosened, loosens-is, one-loosening, values-are}
+use Rattle.promises.proofs.Chosen.{value-is}
+use Rattle.promises.proofs.Loosened.{good-loosened, loosens-is, one-loosening}
 use Rattle.promises.proofs.Runs.{all-good}
 use Rattle.promises.proofs.Useless.{cherry-full, on-zero}
 
@@ -145,7 +146,7 @@ module _ (r : ℕ → Triplets → Tree → Loosened) (n : ℕ) (t b o d : List 
         d = d;
         good = g;
         pc = pc;
-        other = λ e. ne (values-are _ _ _ _ (sym (ap (λ (h : GivenOf Lent). h .told) (on-zero (loosens n t b o d) _ (ap (λ (h : GivenOf Lent). h .told .number) ours)))
+        other = λ e. ne (value-is _ _ (sym (ap (λ (h : GivenOf Lent). h .told) (on-zero (loosens n t b o d) _ (ap (λ (h : GivenOf Lent). h .told .number) ours)))
             ∙ ap (λ (h : GivenOf Lent). h .told) (e ∙ ours)));
       }
 

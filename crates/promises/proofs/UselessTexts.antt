@@ -10,14 +10,14 @@ use lib.Dec.{eqb}
 use Rattle.trees.specs.Trees.{leaf}
 use Rattle.bodies.proofs.Back.{body-good}
 use Rattle.bodies.specs.Draws.{treeAt, treeOf}
-use Rattle.bodies.specs.Faults.{fault, firstBreak, seen}
+use Rattle.rules.specs.Faults.{fault, firstBreak, seen}
 use Rattle.bodies.specs.Nodes.{children}
 use Rattle.newick.proofs.Theorems.{refuses-exactly}
 use Rattle.newick.specs.Form.{lone, no-blank, no-length, nought, text}
 use Rattle.newick.specs.Scan.{act, pastLimit, scanFrom}
 use Rattle.newick.specs.Signs.{sign}
 use Rattle.newick.specs.Texts.{RefusedAt}
-use Rattle.answers.specs.Answers.{Told, byte-place, told, value}
+use Rattle.refusals.specs.Told.{Told, byte-place, told, value}
 use Rattle.answers.specs.Inputs.{Count}
 use Rattle.rendering.proofs.Texts.{same-text}
 use Rattle.rendering.specs.Texts.{newickText, textOf}

@@ -15,7 +15,7 @@ use Rattle.trees.specs.Check.{R, differs}
 use Rattle.trees.specs.Trees.{Tree}
 use Rattle.trees.specs.Triplets.{Triplets, holds, resolves}
 use Rattle.tables.specs.Bytes.{bitOf, entered, over, placeOf}
-use Rattle.tables.specs.Index.{C, index}
+use Rattle.triples.specs.Index.{C, index}
 use Rattle.bodies.proofs.Houses.{good-formed}
 use Rattle.bodies.specs.Draws.{nodeCount, treeAt, treeOf}
 use Rattle.bodies.specs.Nodes.{children}

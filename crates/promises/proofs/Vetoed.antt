@@ -25,14 +25,15 @@ use Rattle.tables.specs.Bytes.{entered}
 use Rattle.bodies.specs.Draws.{bodyOf, nodeCount, treeOf, written}
 use Rattle.bodies.specs.Nodes.{bodyLength, nodes}
 use Rattle.answers.proofs.Answered.{first-stop}
-use Rattle.answers.specs.Answers.{Told, looked-count, node-count, told, value}
+use Rattle.refusals.specs.Told.{Told, looked-count, node-count, told, value}
 use Rattle.answers.specs.Inputs.{Body}
 use Rattle.answers.specs.Looks.{firstRefusal}
-use Rattle.answers.specs.Refusals.{refusalTold}
+use Rattle.refusals.specs.Refusals.{refusalTold}
 use Rattle.answers.specs.declared.Look.{Look}
 use Rattle.answers.specs.declared.Look.the-variants.{Pass, Refuse}
 use Rattle.building.proofs.Whole.{input-uncounted}
-use Rattle.building.specs.Builds.{inputLooks, lookOutcome, lookedBy, outcome, outcomeBy}
+use Rattle.admitting.specs.GoodSet.{inputLooks}
+use Rattle.building.specs.Builds.{lookOutcome, lookedBy, outcome, outcomeBy}
 use Rattle.building.specs.Vetoes.{vetoLooked, vetoed}
 use Rattle.promises.specs.Demand2.{front}
 use Rattle.promises.specs.Inputs.{Buildable, Checkable}
@@ -134,7 +135,7 @@ but-ten n s t o h = go (firstRefusal (inputLooks n s t (length o))) refl
     go : (k : Look) → firstRefusal (inputLooks n s t (length o)) ≡ k → vetoes n s t o ≡ builds n s t o
     go Pass e = came (build-pass n s t o .0 e) (outcome n s t) refl
     go (Refuse x) e = rw (e, first-stop (inputLooks n s t (length o)) (lookOutcome (outcome n s t) ∷ []) x e)
-        (ap (λ (c : ℕ). gives (told (refusalTold x .number) (refusalTold x .values ++ (value looked-count c ∷ []))) o)
+        (ap (λ (c : ℕ). gives (record { number = refusalTold x .number; values = refusalTold x .values ++ (value looked-count c ∷ []); rule = refusalTold x .rule }) o)
         (input-uncounted (vetoLooked n s t) n s t (length o) x e ∙ sym (input-uncounted (lookedBy false n s t) n s t (length o) x e)))
 
 -- ---- the check of it

@@ -14,7 +14,7 @@ use Rattle.bodies.proofs.Written.{written-behind, written-body}
 use Rattle.bodies.specs.Draws.{bodyOf, nodeCount, treeOf, written}
 use Rattle.bodies.specs.Nodes.{bodyLength, nodes}
 use Rattle.answers.specs.Inputs.{Body}
-use Rattle.building.proofs.Chosen.{set-below, set-small}
+use Rattle.admitting.proofs.Chosen.{set-below, set-small}
 use Rattle.promises.specs.Demand2.{HouseBody, Wrote, front}
 use Rattle.promises.specs.Inputs.{Buildable}
 

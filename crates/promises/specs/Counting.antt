@@ -16,7 +16,7 @@ use Rattle.trees.specs.Visits.{Nested, triples, visited}
 use Rattle.tables.specs.Bytes.{entered}
 use Rattle.bodies.specs.Draws.{treeOf}
 use Rattle.bodies.specs.Nodes.{roomFor}
-use Rattle.answers.specs.Answers.{Told, Value, looked-count, value}
+use Rattle.refusals.specs.Told.{Told, Value, looked-count, value}
 use Rattle.answers.specs.Inputs.{Count}
 use Rattle.promises.specs.Operations.{Builder, Lister, Operations}
 use Rattle.promises.specs.Inputs.{Buildable}

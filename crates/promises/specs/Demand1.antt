@@ -8,7 +8,7 @@ use Prim.Native.Nat.{ℕ}
 use lib.Dec.{eqb}
 use lib.ListN.{length}
 use Rattle.bodies.specs.Nodes.{nodes}
-use Rattle.answers.specs.Answers.{Told, Value, looked-count, node-count, text-length, told, value}
+use Rattle.refusals.specs.Told.{Told, Value, looked-count, node-count, text-length, value}
 use Rattle.answers.specs.Looks.{firstRefusal, lookTold}
 use Rattle.answers.specs.declared.Look.{Look}
 use Rattle.collections.specs.Reads.{countValues, countsOf, readLooks}
@@ -18,10 +18,12 @@ use Rattle.ordering.specs.Orders.{orderLooks}
 use Rattle.parsing.specs.Parses.{parseLooks, textBody}
 use Rattle.rendering.specs.Renders.{renderLooks}
 use Rattle.rendering.specs.Texts.{newickText}
-use Rattle.building.specs.Builds.{buildLooks, inputLooks, lookedBy, nodesIn, outcome}
+use Rattle.admitting.specs.GoodSet.{inputLooks}
+use Rattle.building.specs.Builds.{buildLooks, lookedBy, nodesIn, outcome}
 use Rattle.building.specs.Vetoes.{vetoLooked, vetoed}
 use Rattle.checking.specs.Checks.{checkLooks}
-use Rattle.loosening.specs.Loosens.{eased, lent, loosenLooks, tally, tallyValues}
+use Rattle.easing.specs.Eases.{eased, lent, tally}
+use Rattle.loosening.specs.Loosens.{loosenLooks, tallyValues}
 use Rattle.promises.specs.Operations.{GivenOf, Operations}
 
 -- what a call gives back, that was lent o: it tells x, and a refusal changes nothing
@@ -35,7 +37,7 @@ Chosen order values o g = ToldKept (lookTold (firstRefusal order) values) o g
 
 -- and, last, the number of triples looked at. Request T-09: "In demand 1 it counts as listed in the table: refusal 10 returns it, any other returns 0 for it"
 abbrev pub withLooked : ℕ → Told → Told
-withLooked c x = told (x .number) (x .values ++ (value looked-count (cond (eqb (x .number) 0 || eqb (x .number) 10) c 0) ∷ []))
+withLooked c x = record { number = x .number; values = x .values ++ (value looked-count (cond (eqb (x .number) 0 || eqb (x .number) 10) c 0) ∷ []); rule = x .rule }
 
 abbrev pub ChosenLooked : {B : Type 0} → ℕ → List Look → List Value → B → GivenOf B → Type 0
 ChosenLooked c order values o g = ToldKept (withLooked c (lookTold (firstRefusal order) values)) o g

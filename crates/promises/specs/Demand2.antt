@@ -16,15 +16,15 @@ use Rattle.trees.specs.Links.{JoinedByWalks}
 use Rattle.trees.specs.Trees.{SameGroups, Tree, inHouseOrder, under}
 use Rattle.trees.specs.Triplets.{Triplets, fan, holds, onTriple}
 use Rattle.tables.specs.Bytes.{entered}
-use Rattle.tables.specs.Index.{index}
+use Rattle.triples.specs.Index.{index}
 use Rattle.tables.specs.Tells.{TableTells}
 use Rattle.bodies.specs.Draws.{bodyOf, treeOf}
 use Rattle.bodies.specs.Nodes.{bodyLength, nodes}
 use Rattle.answers.specs.Inputs.{Body}
-use Rattle.answers.specs.Answers.{Told, looked-count, node-count, occurring-set, species-count, stopping-set, table-byte, told, tree-count, triple-index, value}
+use Rattle.refusals.specs.Told.{Told, looked-count, node-count, occurring-set, species-count, stopping-set, table-byte, told, tree-count, triple-index, value}
 use Rattle.collections.specs.Collection.{Collection}
 use Rattle.collections.specs.Layout.{bodyAt, species, trees}
-use Rattle.entering.specs.Enters.{left, outer, right}
+use Rattle.records.specs.Records.{left, outer, right}
 use Rattle.promises.specs.Operations.{Builder, Checker, Enterer, Given, Lister, Operations, Orderer, Reader}
 use Rattle.promises.specs.Inputs.{Buildable, Checkable, Enterable, Listable, Orderable}
 

@@ -8,10 +8,10 @@ use Prim.Native.Nat.{ℕ, _≤_, _/_, _%_}
 use lib.ListN.{length}
 use Rattle.sets.specs.Sets.{has, size}
 use Rattle.trees.specs.Trees.{SameGroups, under}
-use Rattle.tables.specs.Index.{C}
+use Rattle.triples.specs.Index.{C}
 use Rattle.bodies.specs.Draws.{ordered, treeOf}
 use Rattle.bodies.specs.Nodes.{roomFor}
-use Rattle.answers.specs.Answers.{looked-count, node-count, told, value}
+use Rattle.refusals.specs.Told.{looked-count, node-count, told, value}
 use Rattle.promises.specs.Operations.{Given, Lister, Operations}
 use Rattle.answers.specs.Inputs.{Body, Count}
 use Rattle.promises.specs.Demand2.{Wrote, front}

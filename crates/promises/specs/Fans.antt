@@ -7,7 +7,7 @@ use lib.ListN.{getD, length}
 use Rattle.sets.specs.Sets.{has}
 use Rattle.tables.specs.Bytes.{Small, fanBit}
 use Rattle.outside.specs.Reaches.{Enclosed}
-use Rattle.answers.specs.Answers.{Told, table-byte, told, triple-index, value}
+use Rattle.refusals.specs.Told.{Told, table-byte, told, triple-index, value}
 use Rattle.promises.specs.Operations.{Operations}
 
 -- two tables of one length that differ in the bits 8 alone, and in which no byte is over 15

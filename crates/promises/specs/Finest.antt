@@ -11,7 +11,7 @@ use Rattle.trees.specs.Trees.{Group, Tree, house, inHouseOrder, under, wellForm
 use Rattle.trees.specs.Triplets.{Triplets}
 use Rattle.tables.specs.Bytes.{entered}
 use Rattle.bodies.specs.Draws.{treeOf}
-use Rattle.answers.specs.Answers.{dropped-count, node-count, told, value}
+use Rattle.refusals.specs.Told.{dropped-count, node-count, told, value}
 use Rattle.promises.specs.Operations.{Checker, Loosener, Operations}
 use Rattle.promises.specs.Demand2.{front}
 use Rattle.promises.specs.Loosening.{TreeWithout}

@@ -5,17 +5,17 @@ use mathlib.Core.Path.{_≡_}
 use Prim.Native.Nat.{ℕ, _<_, _≤_}
 use lib.ListN.{getD, length}
 use Rattle.sets.specs.Sets.{size}
-use Rattle.tables.specs.Index.{C}
+use Rattle.triples.specs.Index.{C}
 use Rattle.trees.specs.Trees.{Tree}
 use Rattle.bodies.specs.Draws.{bodyOf}
 use Rattle.bodies.specs.Nodes.{Good, nodes, roomFor}
 use Rattle.newick.specs.Texts.{Readable}
 use Rattle.answers.specs.Inputs.{Body, Count, Table}
 use Rattle.outside.specs.Reaches.{Enclosed}
-use Rattle.building.specs.GoodSet.{GoodSet}
+use Rattle.admitting.specs.GoodSet.{GoodSet}
 use Rattle.collections.specs.Collection.{Collection}
 use Rattle.collections.specs.Layout.{species}
-use Rattle.entering.specs.Enters.{left, outer, right}
+use Rattle.records.specs.Records.{left, outer, right}
 use Rattle.rendering.specs.Texts.{newickText}
 
 -- "Listing: the collection's refusals, then 7"

@@ -18,7 +18,4 @@ pub mod Useless
 pub mod UselessVetoes
 pub mod UselessLooseners
 pub mod UselessCounts
-pub mod Tied
-pub mod Linked
-pub mod Forms
 pub mod Runs

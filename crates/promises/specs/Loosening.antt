@@ -15,8 +15,8 @@ use Rattle.trees.specs.Triplets.{Triplets}
 use Rattle.tables.specs.Bytes.{entered}
 use Rattle.bodies.specs.Draws.{ordered, treeOf, written}
 use Rattle.bodies.specs.Nodes.{nodes}
-use Rattle.answers.specs.Answers.{dropped-count, node-count, told, value}
-use Rattle.loosening.specs.Loosens.{Lent, lent, numbers}
+use Rattle.refusals.specs.Told.{dropped-count, node-count, told, value}
+use Rattle.easing.specs.Eases.{Lent, lent, numbers}
 use Rattle.promises.specs.Operations.{Checker, GivenOf, Loosener, Operations, gives}
 use Rattle.promises.specs.Inputs.{Loosenable}
 use Rattle.promises.specs.Demand2.{HouseBody, Wrote, front}

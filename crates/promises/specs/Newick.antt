@@ -11,7 +11,7 @@ use Rattle.bodies.specs.Draws.{bodyOf, ordered, treeOf, written}
 use Rattle.bodies.specs.Nodes.{nodes}
 use Rattle.newick.specs.Form.{Form}
 use Rattle.newick.specs.Texts.{Readable, RefusedAt}
-use Rattle.answers.specs.Answers.{byte-place, node-count, text-length, told, value}
+use Rattle.refusals.specs.Told.{byte-place, node-count, text-length, told, value}
 use Rattle.answers.specs.Inputs.{Body, Count}
 use Rattle.rendering.specs.Texts.{newickText, textRoom}
 use Rattle.promises.specs.Operations.{Given, Operations, Parser, Renderer, gives}

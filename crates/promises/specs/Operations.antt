@@ -2,7 +2,7 @@
 use mathlib.Core.List.{List}
 use Prim.Native.Nat.{ℕ}
 use lib.ListN.{length}
-use Rattle.answers.specs.Answers.{Told}
+use Rattle.refusals.specs.Told.{Told}
 use Rattle.collections.specs.Reads.{readAnswer, readTold}
 use Rattle.listing.specs.Lists.{listAfter, listAnswer}
 use Rattle.entering.specs.Enters.{enterAfter, enterAnswer, enterTold}
@@ -12,7 +12,8 @@ use Rattle.rendering.specs.Renders.{renderAfter, renderAnswer, renderTold}
 use Rattle.building.specs.Builds.{buildAfter, buildAnswer, buildTold}
 use Rattle.building.specs.Vetoes.{vetoAfter, vetoAnswer}
 use Rattle.checking.specs.Checks.{checkAnswer, checkTold}
-use Rattle.loosening.specs.Loosens.{Lent, lent, loosenAfter, loosenAnswer, loosenTold}
+use Rattle.easing.specs.Eases.{Lent, lent}
+use Rattle.loosening.specs.Loosens.{loosenAfter, loosenAnswer, loosenTold}
 
 -- what a call gives back: document 01's number with its values, and what the lent memory, of the type B, holds afterwards
 pub record GivenOf (B : Type 0) : Type 0 where

@@ -9,7 +9,7 @@ use Rattle.trees.specs.Induced.{PaperPC, PaperPI}
 use Rattle.trees.specs.Trees.{Tree}
 use Rattle.tables.specs.Bytes.{entered}
 use Rattle.bodies.specs.Draws.{treeOf}
-use Rattle.answers.specs.Answers.{Told}
+use Rattle.refusals.specs.Told.{Told}
 use Rattle.promises.specs.Operations.{Checker, Operations}
 use Rattle.promises.specs.Inputs.{Checkable}
 use Rattle.promises.specs.Demand2.{ChecksAll}

@@ -4,7 +4,7 @@ use mathlib.Core.Path.{_≡_}
 use Prim.Native.Nat.{ℕ, _≤_}
 use lib.ListN.{length}
 use Rattle.bodies.specs.Nodes.{longest}
-use Rattle.answers.specs.Answers.{dropped-count, looked-count, node-count, told, value}
+use Rattle.refusals.specs.Told.{dropped-count, looked-count, node-count, told, value}
 use Rattle.promises.specs.Operations.{Given, Operations}
 use Rattle.promises.specs.Inputs.{Buildable}
 use Rattle.promises.specs.Demand2.{front}

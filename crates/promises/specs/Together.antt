@@ -3,7 +3,7 @@ use mathlib.Core.List.{List, [], _∷_}
 use mathlib.Core.Logic.{_↔_, _≢_, _⊎_}
 use mathlib.Core.Path.{_≡_}
 use Prim.Native.Nat.{ℕ}
-use Rattle.answers.specs.Answers.{looked-count, node-count, occurring-set, species-count, told, tree-count, value}
+use Rattle.refusals.specs.Told.{looked-count, node-count, occurring-set, species-count, told, tree-count, value}
 use Rattle.collections.specs.Layout.{species, trees}
 use Rattle.promises.specs.Operations.{Builder, Checker, Operations}
 use Rattle.promises.specs.Accepts.{Accepts}

@@ -9,7 +9,7 @@ use Rattle.sets.specs.Sets.{has, size}
 use Rattle.trees.specs.Combinations.{C}
 use Rattle.trees.specs.Visits.{triples, visited}
 use Rattle.tables.specs.Bytes.{entered}
-use Rattle.answers.specs.Answers.{looked-count, told, value}
+use Rattle.refusals.specs.Told.{looked-count, told, value}
 use Rattle.building.specs.Builds.{lookedBy}
 use Rattle.promises.specs.Operations.{Builder, Given, builds, gives, vetoes}
 use Rattle.promises.specs.Inputs.{Buildable}

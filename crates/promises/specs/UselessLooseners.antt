@@ -14,8 +14,9 @@ use Rattle.trees.specs.Trees.{Group, Tree, groups, groupsF, house, leaf, node, 
 use Rattle.trees.specs.Triplets.{Triplets}
 use Rattle.tables.specs.Bytes.{entered}
 use Rattle.bodies.specs.Draws.{treeOf}
-use Rattle.answers.specs.Answers.{dropped-count, node-count, told, value}
-use Rattle.loosening.specs.Loosens.{laidOut, lent, numbers, tally, tallyValues}
+use Rattle.refusals.specs.Told.{dropped-count, node-count, told, value}
+use Rattle.easing.specs.Eases.{laidOut, lent, numbers, tally}
+use Rattle.loosening.specs.Loosens.{tallyValues}
 use Rattle.promises.specs.Operations.{Loosener, gives, loosens}
 use Rattle.promises.specs.Inputs.{Loosenable}
 use Rattle.promises.specs.Demand2.{front}

@@ -8,7 +8,7 @@ use Rattle.trees.specs.Trees.{Tree}
 use Rattle.trees.specs.Triplets.{resolves}
 use Rattle.tables.specs.Bytes.{entered}
 use Rattle.bodies.specs.Draws.{treeOf}
-use Rattle.answers.specs.Answers.{looked-count, node-count, told, value}
+use Rattle.refusals.specs.Told.{looked-count, node-count, told, value}
 use Rattle.answers.specs.Inputs.{Body}
 use Rattle.promises.specs.Operations.{Builder, builds, checks, vetoes}
 use Rattle.promises.specs.Inputs.{Buildable}

@@ -14,7 +14,7 @@ use Rattle.trees.specs.Triplets.{Triplets}
 use Rattle.trees.specs.Veto.{VetoTree}
 use Rattle.tables.specs.Bytes.{entered}
 use Rattle.bodies.specs.Draws.{treeOf}
-use Rattle.answers.specs.Answers.{looked-count, node-count, told, value}
+use Rattle.refusals.specs.Told.{looked-count, node-count, told, value}
 use Rattle.promises.specs.Operations.{Builder, Checker, Given, Operations}
 use Rattle.promises.specs.Inputs.{Buildable}
 use Rattle.promises.specs.Demand2.{HouseBody, Wrote, front}

@@ -9,19 +9,23 @@ use lib.Dec.{ltb}
 use lib.ListN.{length, take}
 use Rattle.parsing.specs.declared.Answer.the-variants as parsed
 use Rattle.bodies.specs.Nodes.{longest}
+use Rattle.collections.specs.Layout.{longestCollection}
 use Rattle.papers.proofs.Theorems.{papers-bad, papers-good}
 use Rattle.papers.specs.Bundled.{bundled}
 use Rattle.papers.specs.Papers.{textAt}
 use Rattle.papers.specs.Reads.{Stored, allRead, bodiesOf, mostBytes, papersAnswer, readFrom, textAnswer}
-use Rattle.papers.specs.Texts.{texts}
+use Rattle.texts.specs.Texts.{texts}
 use Rattle.papers.specs.declared.Answer as Papers
 use Rattle.papers.specs.declared.Bad as refused
 use Rattle.papers.specs.declared.Found.{Found}
 use Rattle.places.proofs.Answers.{answer-inside}
 use Rattle.places.specs.Causes.{causeOf}
-use Rattle.places.specs.Refused.{placeIn, textIn}
+use Rattle.places.specs.NodePlaces.{placeIn}
+use Rattle.refused_text.specs.Refused.{textIn}
+use Rattle.writing.proofs.Writing.{writes-whole}
 use Rattle.writing.specs.Writes.{Writes}
 use Rattle.pull_text.specs.Pull.{collectionText, inputText, pullText}
+use Rattle.pull_text.proofs.Lengths.{pull-few}
 
 module _ (w : List ℕ) where
   -- an input that is not refused for its length has at most 65,536 bytes
@@ -46,7 +50,7 @@ module _ (w : List ℕ) where
       stored : take (f .end) o ≡ bundled (f .n) (bodiesOf w)
       stored = subst (λ (b : Papers.Answer). Stored w b o) e h
 
-      pub stored-fits : f .end ≤ 4099
+      pub stored-fits : f .end ≤ longestCollection
       stored-fits = let g = papers-good w f (sym p ∙ e) in omega (arith, g .end-is, g .collection .most)
 
       pub stored-told : collectionText (take (f .end) o) ≡ pullText w
@@ -67,4 +71,4 @@ module _ (w : List ℕ) where
 
   pub pull-written : (o v o′ : List ℕ) (r : ℕ) → length o ≡ 40960 → v ≡ pullText w → Writes o 0 v o′ r
       → (take r o′ ≡ pullText w) × (r ≤ 40960) × (length o′ ≡ 40960)
-  pull-written o v o′ r l e x = (x .text ∙ e, omega (arith, x .inside, l), x .kept ∙ l)
+  pull-written o v o′ r l e x = (writes-whole x (omega (arith, ap length e, pull-few w, l)) ∙ e, omega (arith, x .inside (omega arith), l), x .kept ∙ l)

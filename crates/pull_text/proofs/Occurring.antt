@@ -22,9 +22,9 @@ use Rattle.trees.specs.Triplets.{fan, holds}
 use Rattle.tables.proofs.Fillings.{table-length, table-small}
 use Rattle.tables.proofs.Telling.{table-tells}
 use Rattle.tables.specs.Bytes.{fanBit}
-use Rattle.tables.specs.Index.{index}
+use Rattle.triples.specs.Index.{index}
 use Rattle.bodies.proofs.Drawn.{tree-below, tree-formed}
-use Rattle.bodies.proofs.Rules.{length-good}
+use Rattle.bodies.proofs.Good.{length-good}
 use Rattle.bodies.specs.Draws.{treeOf}
 use Rattle.bodies.specs.Nodes.{longest, nodes, roomFor}
 use Rattle.outside.specs.Reaches.{Enclosed}
@@ -38,9 +38,8 @@ use Rattle.collections.specs.Collection.{Collection}
 use Rattle.collections.specs.Layout.{bodyAt, species, trees}
 use Rattle.collections.specs.Occurs.{occurring, occursUpTo}
 use Rattle.listing.specs.Lists.{listOf, saidUpTo}
-use Rattle.building.proofs.Chosen.{outside-pass, set-pass}
-use Rattle.building.specs.Builds.{inputLooks}
-use Rattle.building.specs.GoodSet.{GoodSet, lookOutside, lookSet}
+use Rattle.admitting.proofs.Chosen.{outside-pass, set-pass}
+use Rattle.admitting.specs.GoodSet.{GoodSet, inputLooks, lookOutside, lookSet}
 
 module _ (c : List ℕ) where
   -- all three occur in the first m trees

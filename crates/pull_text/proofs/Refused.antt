@@ -10,15 +10,16 @@ use lib.ListN.{getD, length}
 use Rattle.sets.proofs.Bools.{and-i, and-l, and-r}
 use Rattle.bodies.specs.declared.Fault.{Fault}
 use Rattle.bodies.specs.declared.Fault.the-variants.{BadParent, BadSpecies, OnlyChild, SeenBefore}
-use Rattle.answers.specs.declared.Refusal.{Refusal}
+use Rattle.refusals.specs.declared.Refusal.{Refusal}
 use Rattle.newick.specs.Form.{blank}
 use Rattle.newick.specs.Texts.{longestText}
 use Rattle.writing.specs.Texts.{decimal, digitsIn, ended, glyph}
 use Rattle.places.specs.Causes.{causeOf}
-use Rattle.places.specs.Expected.{between, expected, namesFrom, signName, signs, standing}
-use Rattle.places.specs.LineColumns.{lineColumn}
-use Rattle.places.specs.Refused.{brokenText, byteText, found, placeIn, refusedLine, textIn, visible, whatText, whereText, wrongText}
-use Rattle.places.specs.Words.{blank-word, byte-word, closing-word, colon-word, column-word, comma-word, digit-word, end-word, expected-word, found-word, highest-word, line-word, long-word, opening-word, point-word, refused-word, semicolon-word, species-word, then-word}
+use Rattle.standing.specs.Expected.{between, expected, namesFrom, signName, signs, standing}
+use Rattle.places.specs.NodePlaces.{placeIn}
+use Rattle.refused_text.specs.Refused.{brokenText, byteText, found, lineColumn, refusedLine, textIn, visible, whatText, whereText, wrongText}
+use Rattle.standing.specs.Words.{closing-word, colon-word, comma-word, digit-word, opening-word, point-word, semicolon-word}
+use Rattle.refused_text.specs.Words.{blank-word, byte-word, column-word, end-word, expected-word, found-word, highest-word, line-word, long-word, refused-word, species-word, then-word}
 use Rattle.places.specs.declared.Cause.{Cause}
 use Rattle.places.specs.declared.Cause.the-variants.{AtNode, AtPlace, Other}
 use Rattle.places.specs.declared.LineColumn.{LineColumn}

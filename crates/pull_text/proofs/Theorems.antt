@@ -16,16 +16,18 @@ use Rattle.collections.specs.declared.Answer as Reading
 use Rattle.listing.specs.Lists.{listOf}
 use Rattle.papers.proofs.Theorems.{papers-good}
 use Rattle.papers.specs.Reads.{papersAnswer}
-use Rattle.papers.specs.Texts.{texts}
+use Rattle.texts.specs.Texts.{texts}
 use Rattle.papers.specs.declared.Answer as Papers
 use Rattle.papers.specs.declared.Found.{Found}
 use Rattle.papers_text.specs.Lines.{papersText}
-use Rattle.pull_text.specs.Outcomes.{GoodPapers, Refused, Sent, collectionOf}
-use Rattle.pull_text.specs.Pull.{builtText, goodText, inputText, pullText, storyText}
+use Rattle.built_text.proofs.Sent.{built-sent, sent-behind}
+use Rattle.built_text.specs.Built.{builtText}
+use Rattle.built_text.specs.Sent.{Sent}
+use Rattle.pull_text.specs.Outcomes.{GoodPapers, Refused, collectionOf}
+use Rattle.pull_text.specs.Pull.{goodText, inputText, pullText, storyText}
 use Rattle.pull_text.proofs.Input.{input-told}
 use Rattle.pull_text.proofs.Occurring.{looks-pass}
 use Rattle.pull_text.proofs.Refused.{long-refused, many-refused, none-refused, refused-one}
-use Rattle.pull_text.proofs.Sent.{built-sent, sent-behind}
 use Rattle.pull_text.proofs.Told.{list-zeros}
 
 -- ---- papers that are read

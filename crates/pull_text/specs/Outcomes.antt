@@ -9,16 +9,12 @@ use Rattle.collections.specs.Layout.{bodyAt, trees}
 use Rattle.collections.specs.Occurs.{occurring}
 use Rattle.collections.specs.Reads.{countsOf, readAnswer}
 use Rattle.collections.specs.declared.Answer as Reading
-use Rattle.checking.specs.Checks.{checkAnswer}
-use Rattle.checking.specs.declared.Answer as Check
 use Rattle.parsing.specs.Parses.{textBody}
 use Rattle.writing.specs.Texts.{ended}
-use Rattle.species_text.specs.Lines.{treeLine}
-use Rattle.sending.specs.Words.{sent-words}
 use Rattle.papers.specs.Bundled.{bundled}
 use Rattle.papers.specs.Papers.{textAt}
 use Rattle.papers.specs.Reads.{bodiesOf}
-use Rattle.papers.specs.Texts.{texts}
+use Rattle.texts.specs.Texts.{texts}
 use Rattle.papers.specs.declared.Found.{Found}
 use Rattle.pull_text.specs.Pull.{pullText, storyText}
 
@@ -33,14 +29,6 @@ pub record GoodPapers (w : List ℕ) (f : Found) : Type 0 where
   pub trees-is : trees (collectionOf w f) ≡ length (texts w)
   pub body-is : (k : ℕ) → k < length (texts w) → bodyAt (collectionOf w f) k ≡ textBody (textAt w k)
   pub text : pullText w ≡ storyText (collectionOf w f) (f .n) (occurring (collectionOf w f))
-
--- the text x has `may be sent: `, with the tree of a body that passes the check with the table t of n species
-pub record Sent (n : ℕ) (t x : List ℕ) : Type 0 where
-  pub before : List ℕ
-  pub body : List ℕ
-  pub behind : List ℕ
-  pub text : x ≡ before ++ (treeLine sent-words body ++ behind)
-  pub passes : checkAnswer n t body ≡ Check.the-variants.Passes
 
 -- "refused: "
 abbrev pub refused-words : List ℕ

@@ -10,7 +10,7 @@ use Rattle.trees.proofs.Theorems.{HouseOrder, house-order, known-by-house}
 use Rattle.trees.specs.Trees.{SameGroups, house, under}
 use Rattle.bodies.proofs.Drawn.{tree-below}
 use Rattle.bodies.proofs.Houses.{good-formed, ordered-groups}
-use Rattle.bodies.proofs.Rules.{length-good}
+use Rattle.bodies.proofs.Good.{length-good}
 use Rattle.bodies.specs.Draws.{treeOf}
 use Rattle.bodies.specs.Nodes.{nodes}
 use Rattle.newick.proofs.Theorems.{one-body}

@@ -4,9 +4,9 @@ use mathlib.Core.List.{List, [], _∷_}
 use Prim.Native.Nat.{ℕ}
 use lib.ListN.{length}
 use Rattle.bodies.specs.Draws.{written}
-use Rattle.answers.specs.Answers.{Told, text-length, told, value}
+use Rattle.refusals.specs.Told.{Told, text-length, told, value}
 use Rattle.answers.specs.Looks.{Settled, after, answered, firstRefusal, lookCount, lookLength, lookRoom, lookRules}
-use Rattle.answers.specs.Refusals.{refusalTold}
+use Rattle.refusals.specs.Refusals.{refusalTold}
 use Rattle.answers.specs.declared.Look.{Look}
 use Rattle.rendering.specs.Texts.{newickText}
 use Rattle.rendering.specs.declared.Answer.{Answer}

@@ -1,6 +1,5 @@
 // A tree's body as Newick text, in house order, without lengths or blanks.
-ghost use Prim.Native.Nat.{_+_, _<_, _≤_};
-ghost use lib.ListN.{length};
+ghost use Prim.Native.Nat.{_<_, _≤_};
 ghost use Rattle.trees.specs.Trees.{house};
 ghost use Rattle.bodies.specs.Nodes.{nodes, mostNodes, Good};
 ghost use Rattle.bodies.specs.Draws.{subtree};
@@ -19,7 +18,7 @@ pub struct Text {
 
 pub enum Answer {
     Done(Text),
-    Refused(answers::Refusal),
+    Refused(refusals::Refusal),
 }
 
 // Writes the text of the tree under node i, in house order, from `at` on. Returns where the next byte goes.
@@ -33,7 +32,6 @@ fn put(
     requires { ⌜ Good 64 (nodes (now body)) ⌝ }
     requires { ⌜ Groups (nodes (now body)) (now groups) ⌝ }
     requires { ⌜ (i < nodes (now body) .count) × (nodes (now body) .count ≤ mostNodes) ⌝ }
-    requires { ⌜ at + length (subtreeText (house (subtree (nodes (now body)) i))) ≤ length (now draft) ⌝ }
     ensures { λ r. ⌜ Writes (now (draft .entry)) at (subtreeText (house (subtree (nodes (now (body .entry))) i))) (now (draft .exit)) r ⌝ }
 {
     let s = bodies::species(body, i);
@@ -71,7 +69,7 @@ pub fn render(n: usize, body: &[u8], room: &mut [u8]) -> Answer
     let last = put(body, &groups, 0, &mut draft, 0);
     let end = writing::put(&mut draft, last, b';');
     if room.len() < end {
-        return Answer::Refused(answers::Refusal::ShortRoom);
+        return Answer::Refused(refusals::Refusal::ShortRoom);
     }
     writing::copy(&draft, end, room);
     Answer::Done(Text { length: end })

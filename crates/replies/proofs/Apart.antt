@@ -1,21 +1,12 @@
--- Different refusals, answers and replies have different numbers or items: each is found again from them. Assumes nothing.
-use mathlib.Core.Bool.{cond}
-use mathlib.Core.List.{List, []}
-use mathlib.Core.Logic.{_≢_}
+-- Different answers of an operation have different numbers, values or rules. Assumes nothing.
+use mathlib.Core.List.{List, [], _∷_, _++_}
 use mathlib.Core.Path.{_∙_, _≡_, ap, ap₂, refl, sym}
 use Prim.Native.Nat.{ℕ}
 use native.Mathlib.Omega.{arith}
-use borrow.Author.Tests.{ne-eqb}
-use lib.Dec.{eqb}
-use lib.ListN.{getD, length}
-use Rattle.bodies.specs.declared.Broken.{Broken}
-use Rattle.bodies.specs.declared.Fault.{Fault}
-use Rattle.bodies.specs.declared.Fault.the-variants.{OnlyChild}
-use Rattle.answers.proofs.Answered.{number-zero}
-use Rattle.answers.specs.Refusals.{refusalTold}
-use Rattle.answers.specs.declared.Look.the-variants.{Pass, Refuse}
-use Rattle.answers.specs.declared.Refusal.{Refusal}
-use Rattle.answers.specs.declared.Refusal.the-variants.{BadByte, BadCounts, BadLength, BadRecord, BadSet, BadTable, BadText, BadTree, BadVersion, Contradicted, EndsEarly, LeftOver, NoTree, Outside, ShortRoom, Unforced}
+use lib.ListN.{drop, getD, length, length-append, take}
+use lib.Seq.{drop-at, take-at}
+use Rattle.refusals.proofs.Numbers.{number-some, refusal-apart}
+use Rattle.refusals.specs.Told.{unnamed}
 use Rattle.collections.specs.Reads.{readTold}
 use Rattle.collections.specs.declared.Answer as Reading
 use Rattle.entering.specs.Enters.{enterTold}
@@ -32,198 +23,76 @@ use Rattle.checking.specs.Checks.{checkTold}
 use Rattle.checking.specs.declared.Answer as Checking
 use Rattle.loosening.specs.Loosens.{loosenTold}
 use Rattle.loosening.specs.declared.Answer as Loosening
-use Rattle.replies.proofs.Behind.{behind-same, counted-behind}
-use Rattle.replies.specs.Plain.{Apart, Item, Plain, ToldApart, behind, broken-rule, plain, plain-number}
-use Rattle.replies.specs.Replied.{replied}
-use Rattle.replies.specs.declared.Reply.{Reply}
-use Rattle.replies.specs.declared.Reply.the-variants as Replies
+use Rattle.replies.proofs.Counted.{counted-values}
+use Rattle.refusals.specs.Replies.{ToldApart}
 
--- what is found again from what it gives is told apart by it
-found-apart : {A B : Type 0} (f : A → B) (found : B → A) → ((a : A) → found (f a) ≡ a) → Apart f
-found-apart f found is a b e = sym (is a) ∙ ap found e ∙ is b
+-- ---- what 0 returns gives the answer again; and no refusal has the number 0
 
--- ---- the items, by their places
-
-abbrev numberIn : Item → ℕ
-numberIn (plain-number n) = n
-numberIn (broken-rule f) = 0
-
-abbrev faultIn : Item → Fault
-faultIn (plain-number n) = OnlyChild
-faultIn (broken-rule f) = f
-
-abbrev numberAt : ℕ → Plain → ℕ
-numberAt i p = numberIn (getD (p .items) i (plain-number 0))
-
-abbrev brokenIn : Plain → Broken
-brokenIn p = record { tree = numberAt 0 p; node = numberAt 1 p; fault = faultIn (getD (p .items) 2 (plain-number 0)) }
-
--- ---- refusals
-
-abbrev refusalIn : Plain → Refusal
-refusalIn p =
-    cond (eqb (p .number) 1) BadVersion
-    (cond (eqb (p .number) 2) BadCounts
-    (cond (eqb (p .number) 3) (EndsEarly (numberAt 0 p))
-    (cond (eqb (p .number) 4) (LeftOver (numberAt 0 p))
-    (cond (eqb (p .number) 5) (BadLength (numberAt 0 p))
-    (cond (eqb (p .number) 6) (BadTree (brokenIn p))
-    (cond (eqb (p .number) 7) BadTable
-    (cond (eqb (p .number) 8) (BadByte (numberAt 0 p))
-    (cond (eqb (p .number) 9) ShortRoom
-    (cond (eqb (p .number) 10) (NoTree (numberAt 0 p))
-    (cond (eqb (p .number) 11) (Contradicted (record { index = numberAt 0 p; byte = numberAt 1 p }))
-    (cond (eqb (p .number) 12) (Unforced (numberAt 0 p))
-    (cond (eqb (p .number) 13) (BadRecord (numberAt 0 p))
-    (cond (eqb (p .number) 14) (BadText (numberAt 0 p))
-    (cond (eqb (p .number) 15) BadSet
-    (Outside (numberAt 0 p))))))))))))))))
-
-refusal-found : (x : Refusal) → refusalIn (plain (refusalTold x)) ≡ x
-refusal-found BadVersion = refl
-refusal-found BadCounts = refl
-refusal-found (EndsEarly k) = refl
-refusal-found (LeftOver m) = refl
-refusal-found (BadLength k) = refl
-refusal-found (BadTree x) = refl
-refusal-found BadTable = refl
-refusal-found (BadByte i) = refl
-refusal-found ShortRoom = refl
-refusal-found (NoTree u) = refl
-refusal-found (Contradicted x) = refl
-refusal-found (Unforced i) = refl
-refusal-found (BadRecord i) = refl
-refusal-found (BadText p) = refl
-refusal-found BadSet = refl
-refusal-found (Outside i) = refl
-
-pub refusal-apart : ToldApart refusalTold
-refusal-apart = found-apart (λ (x : Refusal). plain (refusalTold x)) refusalIn refusal-found
-
--- ---- answers: on 0 done, else a refusal
-
-refusal-some : (x : Refusal) → refusalTold x .number ≢ 0
-refusal-some x e =
-    let p : Refuse x ≡ Pass = number-zero (Refuse x) [] .0 e in
-    let z : _≡_ {A = ℕ} 0 1 = cc in
-    omega arith
-
-module _ {A : Type 0} (done : Plain → A) (refused : Refusal → A) where
-  abbrev answerIn : Plain → A
-  answerIn p = cond (eqb (p .number) 0) (done p) (refused (refusalIn p))
-
-  refused-found : (x : Refusal) → answerIn (plain (refusalTold x)) ≡ refused x
-  refused-found x = rw (ne-eqb (refusalTold x .number) 0 (refusal-some x)) (ap refused (refusal-found x))
+abbrev at : ℕ → List ℕ → ℕ
+at i l = getD l i 0
 
 -- reading, and listing
-abbrev readBack : Plain → Reading.Answer
-readBack p = Reading.the-variants.Done (record { n = numberAt 0 p; trees = numberAt 1 p; set = numberAt 2 p })
-
-read-found : (a : Reading.Answer) → answerIn readBack Reading.the-variants.Refused (plain (readTold a)) ≡ a
-read-found (Reading.the-variants.Done w) = refl
-read-found (Reading.the-variants.Refused x) = refused-found readBack Reading.the-variants.Refused x
-
 pub read-apart : ToldApart readTold
-read-apart = found-apart (λ (a : Reading.Answer). plain (readTold a)) (answerIn readBack Reading.the-variants.Refused) read-found
-
-abbrev enterBack : Plain → Entering.Answer
-enterBack p = Entering.the-variants.Done (record { n = numberAt 0 p; set = numberAt 1 p })
-
-enter-found : (a : Entering.Answer) → answerIn enterBack Entering.the-variants.Refused (plain (enterTold a)) ≡ a
-enter-found (Entering.the-variants.Done w) = refl
-enter-found (Entering.the-variants.Refused x) = refused-found enterBack Entering.the-variants.Refused x
+read-apart (Reading.the-variants.Done u) (Reading.the-variants.Done v) p q r = ap (λ (l : List ℕ). Reading.the-variants.Done (record { n = at 0 l; trees = at 1 l; set = at 2 l })) q
+read-apart (Reading.the-variants.Done u) (Reading.the-variants.Refused y) p q r = absurd (number-some y (sym p))
+read-apart (Reading.the-variants.Refused x) (Reading.the-variants.Done v) p q r = absurd (number-some x p)
+read-apart (Reading.the-variants.Refused x) (Reading.the-variants.Refused y) p q r = ap Reading.the-variants.Refused (refusal-apart x y p q r)
 
 pub enter-apart : ToldApart enterTold
-enter-apart = found-apart (λ (a : Entering.Answer). plain (enterTold a)) (answerIn enterBack Entering.the-variants.Refused) enter-found
-
-abbrev orderBack : Plain → Ordering.Answer
-orderBack p = Ordering.the-variants.Done (record { nodes = numberAt 0 p })
-
-order-found : (a : Ordering.Answer) → answerIn orderBack Ordering.the-variants.Refused (plain (orderTold a)) ≡ a
-order-found (Ordering.the-variants.Done w) = refl
-order-found (Ordering.the-variants.Refused x) = refused-found orderBack Ordering.the-variants.Refused x
+enter-apart (Entering.the-variants.Done u) (Entering.the-variants.Done v) p q r = ap (λ (l : List ℕ). Entering.the-variants.Done (record { n = at 0 l; set = at 1 l })) q
+enter-apart (Entering.the-variants.Done u) (Entering.the-variants.Refused y) p q r = absurd (number-some y (sym p))
+enter-apart (Entering.the-variants.Refused x) (Entering.the-variants.Done v) p q r = absurd (number-some x p)
+enter-apart (Entering.the-variants.Refused x) (Entering.the-variants.Refused y) p q r = ap Entering.the-variants.Refused (refusal-apart x y p q r)
 
 pub order-apart : ToldApart orderTold
-order-apart = found-apart (λ (a : Ordering.Answer). plain (orderTold a)) (answerIn orderBack Ordering.the-variants.Refused) order-found
-
-abbrev parseBack : Plain → Parsing.Answer
-parseBack p = Parsing.the-variants.Done (record { nodes = numberAt 0 p })
-
-parse-found : (a : Parsing.Answer) → answerIn parseBack Parsing.the-variants.Refused (plain (parseTold a)) ≡ a
-parse-found (Parsing.the-variants.Done w) = refl
-parse-found (Parsing.the-variants.Refused x) = refused-found parseBack Parsing.the-variants.Refused x
+order-apart (Ordering.the-variants.Done u) (Ordering.the-variants.Done v) p q r = ap (λ (l : List ℕ). Ordering.the-variants.Done (record { nodes = at 0 l })) q
+order-apart (Ordering.the-variants.Done u) (Ordering.the-variants.Refused y) p q r = absurd (number-some y (sym p))
+order-apart (Ordering.the-variants.Refused x) (Ordering.the-variants.Done v) p q r = absurd (number-some x p)
+order-apart (Ordering.the-variants.Refused x) (Ordering.the-variants.Refused y) p q r = ap Ordering.the-variants.Refused (refusal-apart x y p q r)
 
 pub parse-apart : ToldApart parseTold
-parse-apart = found-apart (λ (a : Parsing.Answer). plain (parseTold a)) (answerIn parseBack Parsing.the-variants.Refused) parse-found
-
-abbrev renderBack : Plain → Rendering.Answer
-renderBack p = Rendering.the-variants.Done (record { length = numberAt 0 p })
-
-render-found : (a : Rendering.Answer) → answerIn renderBack Rendering.the-variants.Refused (plain (renderTold a)) ≡ a
-render-found (Rendering.the-variants.Done w) = refl
-render-found (Rendering.the-variants.Refused x) = refused-found renderBack Rendering.the-variants.Refused x
+parse-apart (Parsing.the-variants.Done u) (Parsing.the-variants.Done v) p q r = ap (λ (l : List ℕ). Parsing.the-variants.Done (record { nodes = at 0 l })) q
+parse-apart (Parsing.the-variants.Done u) (Parsing.the-variants.Refused y) p q r = absurd (number-some y (sym p))
+parse-apart (Parsing.the-variants.Refused x) (Parsing.the-variants.Done v) p q r = absurd (number-some x p)
+parse-apart (Parsing.the-variants.Refused x) (Parsing.the-variants.Refused y) p q r = ap Parsing.the-variants.Refused (refusal-apart x y p q r)
 
 pub render-apart : ToldApart renderTold
-render-apart = found-apart (λ (a : Rendering.Answer). plain (renderTold a)) (answerIn renderBack Rendering.the-variants.Refused) render-found
+render-apart (Rendering.the-variants.Done u) (Rendering.the-variants.Done v) p q r = ap (λ (l : List ℕ). Rendering.the-variants.Done (record { length = at 0 l })) q
+render-apart (Rendering.the-variants.Done u) (Rendering.the-variants.Refused y) p q r = absurd (number-some y (sym p))
+render-apart (Rendering.the-variants.Refused x) (Rendering.the-variants.Done v) p q r = absurd (number-some x p)
+render-apart (Rendering.the-variants.Refused x) (Rendering.the-variants.Refused y) p q r = ap Rendering.the-variants.Refused (refusal-apart x y p q r)
 
-abbrev buildBack : Plain → Building.Answer
-buildBack p = Building.the-variants.Done (record { nodes = numberAt 0 p })
-
-build-found : (a : Building.Answer) → answerIn buildBack Building.the-variants.Refused (plain (answerTold a)) ≡ a
-build-found (Building.the-variants.Done w) = refl
-build-found (Building.the-variants.Refused x) = refused-found buildBack Building.the-variants.Refused x
-
--- the answer of a build, and the number behind it
-pub build-apart : ToldApart buildTold
-build-apart r q e =
-    let p : Plain = plain (answerTold (r .answer)) in
-    let p′ : Plain = plain (answerTold (q .answer)) in
-    let z : behind p (r .looked) ≡ behind p′ (q .looked) = sym (counted-behind r) ∙ e ∙ counted-behind q in
-    let i = behind-same (p .items) (p′ .items) (plain-number (r .looked)) (plain-number (q .looked)) (ap (λ (k : Plain). k .items) z) in
-    let a = found-apart (λ (a : Building.Answer). plain (answerTold a)) (answerIn buildBack Building.the-variants.Refused) build-found (r .answer) (q .answer)
-    (ap₂ (λ (n : ℕ) (l : List Item). record { number = n; items = l }) (ap (λ (k : Plain). k .number) z) (i .0)) in
-    ap₂ (λ (x : Building.Answer) (c : ℕ). record { answer = x; looked = c }) a (ap numberIn (i .1))
-
-abbrev checkBack : Plain → Checking.Answer
-checkBack p = Checking.the-variants.Passes
-
-check-found : (a : Checking.Answer) → answerIn checkBack Checking.the-variants.Refused (plain (checkTold a)) ≡ a
-check-found Checking.the-variants.Passes = refl
-check-found (Checking.the-variants.Refused x) = refused-found checkBack Checking.the-variants.Refused x
+-- building, without the triples looked at
+answer-apart : ToldApart answerTold
+answer-apart (Building.the-variants.Done u) (Building.the-variants.Done v) p q r = ap (λ (l : List ℕ). Building.the-variants.Done (record { nodes = at 0 l })) q
+answer-apart (Building.the-variants.Done u) (Building.the-variants.Refused y) p q r = absurd (number-some y (sym p))
+answer-apart (Building.the-variants.Refused x) (Building.the-variants.Done v) p q r = absurd (number-some x p)
+answer-apart (Building.the-variants.Refused x) (Building.the-variants.Refused y) p q r = ap Building.the-variants.Refused (refusal-apart x y p q r)
 
 pub check-apart : ToldApart checkTold
-check-apart = found-apart (λ (a : Checking.Answer). plain (checkTold a)) (answerIn checkBack Checking.the-variants.Refused) check-found
-
-abbrev loosenBack : Plain → Loosening.Answer
-loosenBack p = Loosening.the-variants.Done (record { nodes = numberAt 0 p; dropped = numberAt 1 p })
-
-loosen-found : (a : Loosening.Answer) → answerIn loosenBack Loosening.the-variants.Refused (plain (loosenTold a)) ≡ a
-loosen-found (Loosening.the-variants.Done w) = refl
-loosen-found (Loosening.the-variants.Refused x) = refused-found loosenBack Loosening.the-variants.Refused x
+check-apart Checking.the-variants.Passes Checking.the-variants.Passes p q r = refl
+check-apart Checking.the-variants.Passes (Checking.the-variants.Refused y) p q r = absurd (number-some y (sym p))
+check-apart (Checking.the-variants.Refused x) Checking.the-variants.Passes p q r = absurd (number-some x p)
+check-apart (Checking.the-variants.Refused x) (Checking.the-variants.Refused y) p q r = ap Checking.the-variants.Refused (refusal-apart x y p q r)
 
 pub loosen-apart : ToldApart loosenTold
-loosen-apart = found-apart (λ (a : Loosening.Answer). plain (loosenTold a)) (answerIn loosenBack Loosening.the-variants.Refused) loosen-found
+loosen-apart (Loosening.the-variants.Done u) (Loosening.the-variants.Done v) p q r = ap (λ (l : List ℕ). Loosening.the-variants.Done (record { nodes = at 0 l; dropped = at 1 l })) q
+loosen-apart (Loosening.the-variants.Done u) (Loosening.the-variants.Refused y) p q r = absurd (number-some y (sym p))
+loosen-apart (Loosening.the-variants.Refused x) (Loosening.the-variants.Done v) p q r = absurd (number-some x p)
+loosen-apart (Loosening.the-variants.Refused x) (Loosening.the-variants.Refused y) p q r = ap Loosening.the-variants.Refused (refusal-apart x y p q r)
 
--- ---- replies
+-- ---- the answer of a build, and the number behind its values
 
--- three items: the third is a value, or the rule that is broken
-abbrev threeIn : Plain → Item → Reply
-threeIn p (plain-number z) = Replies.Three (p .number) (numberAt 0 p) (numberAt 1 p) z
-threeIn p (broken-rule f) = Replies.Broken (brokenIn p)
+behind-same : (l m : List ℕ) (x y : ℕ) → l ++ (x ∷ []) ≡ m ++ (y ∷ []) → (l ≡ m) × (x ≡ y)
+behind-same l m x y e =
+    let k : length m ≡ length l = omega (arith, simp length-append at (ap length e)) in (
+      sym (take-at l (x ∷ []) (length l) refl) ∙ ap (take (length l)) e ∙ take-at m (y ∷ []) (length l) k,
+      ap (at 0) (sym (drop-at l (x ∷ []) (length l) refl) ∙ ap (drop (length l)) e ∙ drop-at m (y ∷ []) (length l) k),
+    )
 
-abbrev replyIn : Plain → Reply
-replyIn p =
-    cond (eqb (length (p .items)) 0) (Replies.Bare (p .number))
-    (cond (eqb (length (p .items)) 1) (Replies.One (p .number) (numberAt 0 p))
-    (cond (eqb (length (p .items)) 2) (Replies.Two (p .number) (numberAt 0 p) (numberAt 1 p))
-    (threeIn p (getD (p .items) 2 (plain-number 0)))))
-
-reply-found : (r : Reply) → replyIn (replied r) ≡ r
-reply-found (Replies.Bare k) = refl
-reply-found (Replies.One k x) = refl
-reply-found (Replies.Two k x y) = refl
-reply-found (Replies.Three k x y z) = refl
-reply-found (Replies.Broken x) = refl
-
-pub replied-apart : Apart replied
-replied-apart = found-apart replied replyIn reply-found
+pub build-apart : ToldApart buildTold
+build-apart a b p q r =
+    let vs : List ℕ = unnamed (answerTold (a .answer) .values) in
+    let ws : List ℕ = unnamed (answerTold (b .answer) .values) in
+    let i = behind-same vs ws (a .looked) (b .looked) (sym (counted-values a) ∙ q ∙ counted-values b) in
+    ap₂ (λ (x : Building.Answer) (c : ℕ). record { answer = x; looked = c }) (answer-apart (a .answer) (b .answer) p (i .0) r) (i .1)

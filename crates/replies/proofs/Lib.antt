@@ -1,4 +1,3 @@
--- The laws of replies.
-pub mod Replying
-pub mod Behind
+-- The laws of the operations' replies.
+pub mod Counted
 pub mod Apart

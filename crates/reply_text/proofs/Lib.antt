@@ -1,3 +1,3 @@
--- The laws of the text of a reply: how long it is, and what the pieces of a line come to.
-pub mod Lengths
+-- The laws of the text of a reply: what the pieces of a line come to, and how long a line is.
 pub mod Pieces
+pub mod Lengths

@@ -4,9 +4,11 @@ use mathlib.Core.List.{List, [], _∷_, _++_}
 use Prim.Native.Nat.{ℕ}
 use Rattle.bodies.specs.declared.Fault.{Fault}
 use Rattle.bodies.specs.declared.Fault.the-variants.{BadParent, BadSpecies, SeenBefore, OnlyChild}
-use Rattle.answers.specs.Answers.{Told}
-use Rattle.loosening.specs.Loosens.{Lent}
-use Rattle.replies.specs.Plain.{Item, plain-number, broken-rule, Plain, plain}
+use Rattle.refusals.specs.Told.{Told, unnamed}
+use Rattle.refusals.specs.declared.Rule.{Rule}
+use Rattle.refusals.specs.declared.Rule.the-variants.{Kept, Broken}
+use Rattle.refusals.specs.Replies.{valuesOf}
+use Rattle.refusals.specs.declared.Reply.{Reply}
 use Rattle.writing.specs.Texts.{decimal, spaced}
 
 -- a space, and the words parent, species, seen, only
@@ -29,26 +31,21 @@ faultText (BadSpecies s) = species-word ++ (32 ∷ decimal s)
 faultText (SeenBefore i) = seen-word ++ (32 ∷ decimal i)
 faultText OnlyChild = only-word
 
--- what is returned with a number, after a space
-abbrev pub itemText : Item → List ℕ
-itemText (plain-number x) = 32 ∷ decimal x
-itemText (broken-rule f) = faultText f
+-- where a rule is broken, which one
+abbrev pub ruleText : Rule → List ℕ
+ruleText Kept = []
+ruleText (Broken f) = faultText f
 
-abbrev pub itemsText : List Item → List ℕ
-itemsText [] = []
-itemsText (i ∷ l) = itemText i ++ itemsText l
-
--- the number, and what is returned with it
-abbrev pub plainText : Plain → List ℕ
-plainText p = decimal (p .number) ++ itemsText (p .items)
+-- the number, the values without their names, each after a space, and the rule
+abbrev pub plainText : ℕ → List ℕ → Rule → List ℕ
+plainText k vs e = decimal k ++ (spaced vs ++ ruleText e)
 
 abbrev pub toldText : Told → List ℕ
-toldText t = plainText (plain t)
+toldText t = plainText (t .number) (unnamed (t .values)) (t .rule)
+
+abbrev pub replyText : Reply → List ℕ
+replyText s = plainText (s .number) (valuesOf s) (s .rule)
 
 -- a space, a bar, and each byte, or each set, after a space
 abbrev pub barred : List ℕ → List ℕ
 barred l = 32 ∷ 124 ∷ spaced l
-
--- a room, and then a list of sets
-abbrev pub lentText : Lent → List ℕ
-lentText o = barred (o .room) ++ barred (o .list)

@@ -1,89 +1,70 @@
 // The text of a reply, and behind it that of what was lent: bytes of a table or a room, or a room and a list of sets.
-ghost use mathlib.Core.List.{_++_};
-ghost use Prim.Native.Nat.{_+_, _*_, _≤_};
-ghost use lib.ListN.{length};
-ghost use Rattle.answers.specs.Refusals.{refusalTold};
-ghost use Rattle.answers.specs.declared.Refusal.the-variants.{BadTree};
-ghost use Rattle.loosening.specs.Loosens.{lent};
-ghost use Rattle.replies.specs.Replied.{replied};
-ghost use Rattle.writing.specs.Texts.{ended};
+ghost use mathlib.Core.Path.{_≡_};
+ghost use mathlib.Core.List.{_∷_, _++_};
+ghost use Prim.Native.Nat.{_≤_};
+ghost use lib.ListN.{take};
+ghost use Rattle.refusals.specs.Replies.{valuesOf};
+ghost use Rattle.writing.specs.Texts.{decimal, ended};
 ghost use Rattle.writing.specs.Writes.{Writes};
-ghost use Rattle.reply_text.specs.Text.{faultText, plainText, toldText, barred, lentText};
+ghost use Rattle.reply_text.specs.Text.{ruleText, replyText, barred};
 
-// Writes which rule is broken.
-fn put_fault(out: &mut [u8], at: usize, f: bodies::Fault) -> usize
-    requires { ⌜ at + 29 ≤ length (now out) ⌝ }
-    ensures { λ r. ⌜ Writes (now (out .entry)) at (faultText f) (now (out .exit)) r ⌝ }
+// Writes the word of a fault, and its own data.
+fn put_fault(out: &mut [u8], at: usize, word: &[u8], x: usize) -> usize
+    ensures { λ r. ⌜ Writes (now (out .entry)) at (now (word .entry) ++ (32 ∷ decimal x)) (now (out .exit)) r ⌝ }
 {
-    match f {
-        bodies::Fault::BadParent(p) => {
-            let a = writing::put_word(out, at, b" parent");
-            writing::put_spaced(out, a, p as u64)
-        }
-        bodies::Fault::BadSpecies(s) => {
-            let a = writing::put_word(out, at, b" species");
-            writing::put_spaced(out, a, s as u64)
-        }
-        bodies::Fault::SeenBefore(i) => {
-            let a = writing::put_word(out, at, b" seen");
-            writing::put_spaced(out, a, i as u64)
-        }
-        bodies::Fault::OnlyChild => writing::put_word(out, at, b" only"),
+    let a = writing::put_word(out, at, word);
+    writing::put_spaced(out, a, x as u64)
+}
+
+// Writes which rule is broken, and nothing where none is.
+fn put_rule(out: &mut [u8], at: usize, rule: refusals::Rule) -> usize
+    ensures { λ r. ⌜ Writes (now (out .entry)) at (ruleText rule) (now (out .exit)) r ⌝ }
+{
+    match rule {
+        refusals::Rule::Kept => at,
+        refusals::Rule::Broken(f) => match f {
+            bodies::Fault::BadParent(p) => put_fault(out, at, b" parent", p as usize),
+            bodies::Fault::BadSpecies(s) => put_fault(out, at, b" species", s as usize),
+            bodies::Fault::SeenBefore(i) => put_fault(out, at, b" seen", i),
+            bodies::Fault::OnlyChild => writing::put_word(out, at, b" only"),
+        },
     }
 }
 
-// Writes refusal 6: the tree number, the node, and the fault.
-fn put_broken(out: &mut [u8], at: usize, x: bodies::Broken) -> usize
-    requires { ⌜ at + 91 ≤ length (now out) ⌝ }
-    ensures { λ r. ⌜ Writes (now (out .entry)) at (toldText (refusalTold (BadTree x))) (now (out .exit)) r ⌝ }
+// How many values a reply has.
+fn count_of(s: refusals::Reply) -> usize
+    ensures { λ r. ⌜ (r ≤ 4) × (take r (s .values) ≡ valuesOf s) ⌝ }
 {
-    let a = writing::put_decimal(out, at, 6);
-    let b = writing::put_spaced(out, a, x.tree as u64);
-    let c = writing::put_spaced(out, b, x.node as u64);
-    let fault = x.fault;
-    put_fault(out, c, fault)
+    if s.count < 4 { s.count } else { 4 }
 }
 
 // Writes a reply.
-fn put_reply(out: &mut [u8], at: usize, s: replies::Reply) -> usize
-    requires { ⌜ at + 91 ≤ length (now out) ⌝ }
-    ensures { λ r. ⌜ Writes (now (out .entry)) at (plainText (replied s)) (now (out .exit)) r ⌝ }
+fn put_reply(out: &mut [u8], at: usize, s: refusals::Reply) -> usize
+    ensures { λ r. ⌜ Writes (now (out .entry)) at (replyText s) (now (out .exit)) r ⌝ }
 {
-    match s {
-        replies::Reply::Bare(k) => writing::put_decimal(out, at, k as u64),
-        replies::Reply::One(k, x) => {
-            let a = writing::put_decimal(out, at, k as u64);
-            writing::put_spaced(out, a, x as u64)
-        }
-        replies::Reply::Two(k, x, y) => {
-            let a = writing::put_decimal(out, at, k as u64);
-            let b = writing::put_spaced(out, a, x as u64);
-            writing::put_spaced(out, b, y as u64)
-        }
-        replies::Reply::Three(k, x, y, z) => {
-            let a = writing::put_decimal(out, at, k as u64);
-            let b = writing::put_spaced(out, a, x as u64);
-            let c = writing::put_spaced(out, b, y as u64);
-            writing::put_spaced(out, c, z as u64)
-        }
-        replies::Reply::Broken(x) => put_broken(out, at, x),
+    let count = count_of(s);
+    let values = s.values;
+    let rule = s.rule;
+    let mut next = writing::put_decimal(out, at, s.number as u64);
+    let mut i = 0;
+    while i < count {
+        next = writing::put_spaced(out, next, values[i] as u64);
+        i += 1;
     }
+    put_rule(out, next, rule)
 }
 
 // Writes a line that ends after the answer.
-pub fn put_line(out: &mut [u8], at: usize, s: replies::Reply) -> usize
-    requires { ⌜ at + 92 ≤ length (now out) ⌝ }
-    ensures { λ r. ⌜ Writes (now (out .entry)) at (ended (plainText (replied s))) (now (out .exit)) r ⌝ }
+pub fn put_line(out: &mut [u8], at: usize, s: refusals::Reply) -> usize
+    ensures { λ r. ⌜ Writes (now (out .entry)) at (ended (replyText s)) (now (out .exit)) r ⌝ }
 {
     let a = put_reply(out, at, s);
     writing::put(out, a, b'\n')
 }
 
 // Writes an answer, and the bytes of a table or a room behind it.
-fn put_lent(out: &mut [u8], at: usize, s: replies::Reply, l: &[u8]) -> usize
-    requires { ⌜ at + 4 * length (now l) + 93 ≤ length (now out) ⌝ }
-    ensures { λ r. ⌜ Writes (now (out .entry)) at (plainText (replied s) ++ barred (now (l .entry))) (now (out .exit)) r ⌝ }
-    ensures few { λ r. ⌜ r ≤ at + 4 * length (now (l .entry)) + 93 ⌝ }
+fn put_lent(out: &mut [u8], at: usize, s: refusals::Reply, l: &[u8]) -> usize
+    ensures { λ r. ⌜ Writes (now (out .entry)) at (replyText s ++ barred (now (l .entry))) (now (out .exit)) r ⌝ }
 {
     let a = put_reply(out, at, s);
     let b = writing::put_word(out, a, b" |");
@@ -91,18 +72,16 @@ fn put_lent(out: &mut [u8], at: usize, s: replies::Reply, l: &[u8]) -> usize
 }
 
 // Writes a line with the bytes of a table or a room behind the answer.
-pub fn put_barred(out: &mut [u8], at: usize, s: replies::Reply, l: &[u8]) -> usize
-    requires { ⌜ at + 4 * length (now l) + 94 ≤ length (now out) ⌝ }
-    ensures { λ r. ⌜ Writes (now (out .entry)) at (ended (plainText (replied s) ++ barred (now (l .entry)))) (now (out .exit)) r ⌝ }
+pub fn put_barred(out: &mut [u8], at: usize, s: refusals::Reply, l: &[u8]) -> usize
+    ensures { λ r. ⌜ Writes (now (out .entry)) at (ended (replyText s ++ barred (now (l .entry)))) (now (out .exit)) r ⌝ }
 {
     let a = put_lent(out, at, s, l);
     writing::put(out, a, b'\n')
 }
 
 // Writes a line with the bytes of a room and then the sets of a list behind the answer.
-pub fn put_both(out: &mut [u8], at: usize, s: replies::Reply, l: &[u8], sets: &[u64]) -> usize
-    requires { ⌜ at + 4 * length (now l) + 21 * length (now sets) + 96 ≤ length (now out) ⌝ }
-    ensures { λ r. ⌜ Writes (now (out .entry)) at (ended (plainText (replied s) ++ lentText (lent (now (l .entry)) (now (sets .entry))))) (now (out .exit)) r ⌝ }
+pub fn put_both(out: &mut [u8], at: usize, s: refusals::Reply, l: &[u8], sets: &[u64]) -> usize
+    ensures { λ r. ⌜ Writes (now (out .entry)) at (ended (replyText s ++ (barred (now (l .entry)) ++ barred (now (sets .entry))))) (now (out .exit)) r ⌝ }
 {
     let end = put_lent(out, at, s, l);
     let b = writing::put_word(out, end, b" |");

@@ -4,9 +4,9 @@ use Rattle.sets.specs.Species.{members}
 use Rattle.sets.specs.Sets.{digit, number}
 use Rattle.trees.specs.Links.{part, leads, parts}
 use Rattle.trees.specs.Build.{buildIn, buildBy}
-use Rattle.tables.specs.Index.{C, index, largest, highAt, midAt, lowAt}
+use Rattle.triples.specs.Index.{C, index, largest, highAt, midAt, lowAt}
 use Rattle.tables.specs.Bytes.{placeOf, bitOf, entered}
-use Rattle.tables.specs.Find.{at, firstFrom, firstTriple}
+use Rattle.triples.specs.Find.{at, firstFrom, firstTriple}
 use Rattle.building.specs.Builds.{outcomeBy}
 use Rattle.checking.specs.Checks.{firstDiffers, firstUnsure}
 use Rattle.runs.specs.Runs.{Holds, example4, papers, readings}

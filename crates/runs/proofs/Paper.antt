@@ -22,8 +22,8 @@ use Rattle.trees.specs.Trees.{Tree, leaves, under, wellFormed}
 use Rattle.trees.specs.Triplets.{Triplets, only}
 use Rattle.tables.proofs.Bytes.{entered-enter, entered-proper, entered-zeros}
 use Rattle.tables.specs.Bytes.{bitOf, enter, entered, placeOf}
-use Rattle.tables.specs.Find.{at, firstFrom, firstTriple}
-use Rattle.tables.specs.Index.{C, highAt, index, largest, lowAt, midAt}
+use Rattle.triples.specs.Find.{at, firstFrom, firstTriple}
+use Rattle.triples.specs.Index.{C, highAt, index, largest, lowAt, midAt}
 use Rattle.checking.proofs.Passing.{pc-first, pi-first}
 use Rattle.checking.specs.Checks.{firstDiffers, firstUnsure}
 use Rattle.runs.specs.Paper.{InPaper, PaperRun, WordsDiffer, both-hold, paper-runs, pc-fails, pi-fails, small-runs}

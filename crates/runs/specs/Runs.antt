@@ -8,7 +8,7 @@ use Rattle.trees.specs.Trees.{Tree, cons, leaf, nil, node}
 use Rattle.answers.specs.Looks.{firstRefusal}
 use Rattle.answers.specs.declared.Look.{Look}
 use Rattle.answers.specs.declared.Look.the-variants.{Pass, Refuse}
-use Rattle.answers.specs.declared.Refusal.the-variants.{NoTree, Unforced}
+use Rattle.refusals.specs.declared.Refusal.the-variants.{NoTree, Unforced}
 use Rattle.sets.specs.Sets.{upto}
 use Rattle.building.specs.Builds.{lookOutcome, outcome}
 use Rattle.checking.specs.Checks.{triplesLooks}

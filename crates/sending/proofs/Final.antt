@@ -12,11 +12,11 @@ use Rattle.tables.proofs.Bytes.{entered-proper}
 use Rattle.tables.specs.Bytes.{entered}
 use Rattle.bodies.proofs.Back.{body-back, body-badLength, body-good, body-length, leaves-few, nodes-few}
 use Rattle.bodies.proofs.Drawn.{tree-below, tree-formed}
-use Rattle.bodies.proofs.Rules.{length-good}
+use Rattle.bodies.proofs.Good.{length-good}
 use Rattle.bodies.specs.Draws.{bodyOf, nodeCount, treeOf}
 use Rattle.bodies.specs.Nodes.{longest, mostNodes, nodes}
 use Rattle.answers.specs.Inputs.{Body, Count}
-use Rattle.loosening.specs.Loosens.{eased}
+use Rattle.easing.specs.Eases.{eased}
 use Rattle.sending.specs.Pulls.{InPreorder}
 
 module _ {n : ℕ} {b : List ℕ} (g : Body n b) where

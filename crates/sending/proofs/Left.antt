@@ -12,11 +12,12 @@ use Rattle.answers.specs.Inputs.{Body, Count}
 use Rattle.answers.specs.Looks.{after, answered, firstRefusal}
 use Rattle.answers.specs.declared.Look.{Look}
 use Rattle.answers.specs.declared.Look.the-variants.{Pass, Refuse}
-use Rattle.answers.specs.declared.Refusal.{Refusal}
-use Rattle.loosening.specs.Loosens.{Lent, eased, laidOut, lent, loosenAnswer, loosenLooks, numbers, tally}
+use Rattle.refusals.specs.declared.Refusal.{Refusal}
+use Rattle.easing.specs.Eases.{Lent, eased, laidOut, lent, numbers, tally}
+use Rattle.loosening.specs.Loosens.{loosenAnswer, loosenLooks}
 use Rattle.loosening.specs.declared.Answer.{Answer}
 use Rattle.loosening.specs.declared.Answer.the-variants.{Done, Refused}
-use Rattle.loosening.specs.declared.Tally.{Tally}
+use Rattle.easing.specs.declared.Tally.{Tally}
 use Rattle.sending.proofs.Final.{final-body, final-dropped, final-long, final-nodes, final-preorder}
 use Rattle.sending.proofs.Pulled.{numbers-length}
 use Rattle.sending.specs.Pulls.{InPreorder}

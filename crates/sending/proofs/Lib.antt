@@ -5,4 +5,5 @@ pub mod Pulled
 pub mod Final
 pub mod Left
 pub mod Sent
+pub mod Lengths
 pub mod Vectors

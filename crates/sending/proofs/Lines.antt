@@ -12,6 +12,6 @@ lines-more : (w l : List ℕ) (s : ℕ) → speciesLines w l ++ speciesLine w s 
 lines-more w [] s = sym (append-nil (speciesLine w s))
 lines-more w (x ∷ l) s = append-assoc (speciesLine w x) (speciesLines w l) (speciesLine w s) ∙ ap (λ (z : List ℕ). speciesLine w x ++ z) (lines-more w l s)
 
-pub lines-next : (w l : List ℕ) (s : ℕ) (o : List ℕ) (at : ℕ) (o′ o″ : List ℕ) (m r : ℕ) → Writes o at (speciesLines w l) o′ m → Writes o′ m (speciesLine w s) o″ r
+pub lines-next : (w l : List ℕ) (s : ℕ) {o : List ℕ} {at : ℕ} {o′ o″ : List ℕ} {m r : ℕ} → Writes o at (speciesLines w l) o′ m → Writes o′ m (speciesLine w s) o″ r
     → Writes o at (speciesLines w (l ++ (s ∷ []))) o″ r
-lines-next w l s o at o′ o″ m r x y = writes-as o at _ _ o″ r (lines-more w l s) (writes-both o at _ _ o′ o″ m r x y)
+lines-next w l s x y = writes-as (lines-more w l s) (writes-both x y)

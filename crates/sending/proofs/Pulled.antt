@@ -1,28 +1,26 @@
 -- The lines of the groups of a body in preorder, node by node: what was written and what is still to be written make the whole. Assumes nothing.
+use mathlib.Core.Bool.{Bool, false, false≢true, true}
 use mathlib.Core.List.{List, [], _∷_, _++_, append-assoc, append-nil}
 use mathlib.Core.Logic.{_≢_}
 use mathlib.Core.Path.{_∙_, _≡_, ap, refl, subst, sym}
-use Prim.Native.Nat.{ℕ, suc, _+_, _-_, _*_, _<_, _≤_}
+use Prim.Native.Nat.{ℕ, suc, _+_, _-_, _<_, _≤_}
 use native.Mathlib.Omega.{arith}
-use lib.ListN.{length, length-append}
-use Rattle.sets.specs.Sets.{has}
-use Rattle.sets.specs.Species.{Species, members}
-use Rattle.trees.proofs.Formed.{formed-e}
+use lib.ListN.{length}
+use Rattle.sets.specs.Species.{Species}
 use Rattle.trees.specs.Trees.{Tree}
-use Rattle.trees.specs.Visits.{innerGroups}
 use Rattle.bodies.proofs.Back.{body-count, body-good, leaves-few, lays-body, nodes-few}
 use Rattle.bodies.proofs.Laid.{Lays}
 use Rattle.bodies.specs.Draws.{nodeCount, subtree, treeOf}
 use Rattle.bodies.specs.Nodes.{Good, mostNodes, nodes, none}
 use Rattle.groups.specs.Groups.{setOf}
-use Rattle.loosening.specs.Loosens.{numbers}
+use Rattle.easing.specs.Eases.{numbers}
 use Rattle.writing.proofs.Writing.{writes-as, writes-both, writes-nothing}
-use Rattle.writing.specs.Texts.{ended, spaced}
+use Rattle.writing.specs.Texts.{ended}
 use Rattle.writing.specs.Writes.{Writes}
 use Rattle.species_text.specs.Lines.{speciesLine}
-use Rattle.sending.proofs.InnerNodes.{behind-few, behind-root, inner-end, inner-leaf, inner-more, innerFrom}
+use Rattle.sending.proofs.InnerNodes.{behind-root, inner-end, inner-leaf, inner-more, innerFrom}
 use Rattle.sending.proofs.Lines.{lines-next}
-use Rattle.sending.specs.Pulls.{InPreorder, behindFirst, groupsText, pulled, pulledText, speciesLines}
+use Rattle.sending.specs.Pulls.{InPreorder, groupsText, pulled, pulledText, speciesLines}
 use Rattle.sending.specs.Words.{nothing-words, together-words}
 
 pub numbers-length : (l : List Species) → length (numbers l) ≡ length l
@@ -51,34 +49,35 @@ module _ (b : List ℕ) (p : InPreorder b) where
   pulled-is = ap (λ (k : ℕ). numbers (innerFrom (nodes b) (k - 1) 1)) count-is
       ∙ ap numbers (sym (behind-root (nodes b) 64 (omega arith) preorder-good T 255 (p .below) lays (λ c h m x y. omega (arith, count-is)) (omega (arith, count-is))))
 
-  pub pulled-few : length (pulled b) ≤ 62
-  pulled-few = omega (
-    arith,
-    numbers-length (behindFirst (innerGroups T)),
-    behind-few T (formed-e T (p .formed)),
-    leaves-few 64 T (p .formed) (p .below),
-  )
-
 -- ---- node by node
 
--- o was the text, and is o′ now, with the lines of the groups of the nodes before i from `at` on
-pub record Todo (b : List ℕ) (at : ℕ) (o o′ : List ℕ) (next i : ℕ) : Type 0 where
+-- the list has a set
+abbrev anySet : List ℕ → Bool
+anySet [] = false
+anySet (s ∷ l) = true
+
+any-last : (l : List ℕ) (s : ℕ) → true ≡ anySet (l ++ (s ∷ []))
+any-last [] s = refl
+any-last (x ∷ l) s = refl
+
+-- o was the text, and is o′ now, with the lines of the groups of the nodes before i from `at` on; `some` says whether there is one
+pub record Todo (b : List ℕ) (at : ℕ) (o o′ : List ℕ) (next : ℕ) (some : Bool) (i : ℕ) : Type 0 where
   pub done : List ℕ
   pub wrote : Writes o at (speciesLines together-words done) o′ next
   pub whole : done ++ numbers (innerFrom (nodes b) (nodes b .count - i) i) ≡ pulled b
-  pub few : next ≤ at + 207 * length done
+  pub told : some ≡ anySet done
 
-pub todo-start : (b : List ℕ) → InPreorder b → (at : ℕ) (o : List ℕ) → at ≤ length o → Todo b at o o at 1
-todo-start b p at o h = record { done = []; wrote = writes-nothing o at h; whole = pulled-is b p; few = omega arith }
+pub todo-start : (b : List ℕ) → InPreorder b → (at : ℕ) (o : List ℕ) → Todo b at o o at false 1
+todo-start b p at o = record { done = []; wrote = writes-nothing o at; whole = pulled-is b p; told = refl }
 
-module _ {b : List ℕ} {at : ℕ} {o o′ : List ℕ} {next i : ℕ} (t : Todo b at o o′ next i) (h : i < nodes b .count) where
+module _ {b : List ℕ} {at : ℕ} {o o′ : List ℕ} {next : ℕ} {some : Bool} {i : ℕ} (t : Todo b at o o′ next some i) (h : i < nodes b .count) where
   -- a leaf has no line
-  pub todo-leaf : nodes b .species i ≢ none → Todo b at o o′ next (i + 1)
+  pub todo-leaf : nodes b .species i ≢ none → Todo b at o o′ next some (i + 1)
   todo-leaf e = record {
     done = t .done;
     wrote = t .wrote;
     whole = ap (λ (l : List Species). t .done ++ numbers l) (sym (inner-leaf (nodes b) (nodes b .count) i h e)) ∙ t .whole;
-    few = t .few;
+    told = t .told;
   }
 
   -- an inner node
@@ -92,49 +91,36 @@ module _ {b : List ℕ} {at : ℕ} {o o′ : List ℕ} {next i : ℕ} (t : Todo 
     parted : t .done ++ (s ∷ rest) ≡ pulled b
     parted = ap (λ (l : List Species). t .done ++ numbers l) (sym (inner-more (nodes b) (nodes b .count) i h e)) ∙ t .whole
 
-    pub todo-fits : InPreorder b → next + 207 ≤ at + 12834
-    todo-fits p = omega (arith, t .few, ap length parted, length-append (t .done) (s ∷ rest), pulled-few b p)
-
-    pub todo-next : (x : ℕ) → x ≡ s → (o″ : List ℕ) (r : ℕ) → Writes o′ next (speciesLine together-words x) o″ r → r ≤ next + 207 → Todo b at o o″ r (i + 1)
-    todo-next x q o″ r w l = record {
+    pub todo-next : (x : ℕ) → x ≡ s → (o″ : List ℕ) (r : ℕ) → Writes o′ next (speciesLine together-words x) o″ r → Todo b at o o″ r true (i + 1)
+    todo-next x q o″ r w = record {
       done = t .done ++ (x ∷ []);
-      wrote = lines-next together-words (t .done) x o at o′ o″ next r (t .wrote) w;
+      wrote = lines-next together-words (t .done) x (t .wrote) w;
       whole = append-assoc (t .done) (x ∷ []) rest ∙ ap (λ (y : ℕ). t .done ++ (y ∷ rest)) q ∙ parted;
-      few = omega (arith, t .few, l, length-append (t .done) (x ∷ []));
+      told = any-last (t .done) x;
     }
 
 -- ---- all nodes
 
-line-some : (w : List ℕ) (x : ℕ) (l : List ℕ) → 1 ≤ length (speciesLines w (x ∷ l))
-line-some w x l = omega (arith, length-append (speciesLine w x) (speciesLines w l), length-append (w ++ spaced (members 64 (has x))) (10 ∷ []))
+some-lines : (l : List ℕ) → true ≡ anySet l → speciesLines together-words l ≡ pulledText l
+some-lines [] e = absurd (false≢true (sym e))
+some-lines (x ∷ l) e = refl
 
-some-lines : (l : List ℕ) (at next : ℕ) → next ≡ at + length (speciesLines together-words l) → next ≢ at → speciesLines together-words l ≡ pulledText l
-some-lines [] at next e n = absurd (n (omega arith))
-some-lines (x ∷ l) at next e n = refl
+no-lines : (l : List ℕ) → false ≡ anySet l → speciesLines together-words l ++ ended nothing-words ≡ pulledText l
+no-lines [] e = refl
+no-lines (x ∷ l) e = absurd (false≢true e)
 
-no-lines : (l : List ℕ) (at next : ℕ) → next ≡ at + length (speciesLines together-words l) → next ≡ at → ended nothing-words ≡ pulledText l
-no-lines [] at next e n = refl
-no-lines (x ∷ l) at next e n = absurd (omega (arith, line-some together-words x l))
-
-no-bytes : (l : List ℕ) → length l ≡ 0 → l ≡ []
-no-bytes [] e = refl
-no-bytes (x ∷ l) e = absurd (omega (arith, e))
-
-module _ {b : List ℕ} {at : ℕ} {o o′ : List ℕ} {next i : ℕ} (t : Todo b at o o′ next i) (h : nodes b .count ≤ i) where
+module _ {b : List ℕ} {at : ℕ} {o o′ : List ℕ} {next : ℕ} {some : Bool} {i : ℕ} (t : Todo b at o o′ next some i) (h : nodes b .count ≤ i) where
   all-done : t .done ≡ pulled b
   all-done = sym (append-nil (t .done)) ∙ ap (λ (l : List Species). t .done ++ numbers l) (sym (inner-end (nodes b) (nodes b .count) i h)) ∙ t .whole
 
   all-written : Writes o at (speciesLines together-words (pulled b)) o′ next
-  all-written = writes-as o at _ _ o′ next (ap (speciesLines together-words) all-done) (t .wrote)
+  all-written = writes-as (ap (speciesLines together-words) all-done) (t .wrote)
 
-  pub todo-few : InPreorder b → next ≤ at + 12834
-  todo-few p = omega (arith, t .few, ap length all-done, pulled-few b p)
+  all-told : some ≡ anySet (pulled b)
+  all-told = t .told ∙ ap anySet all-done
 
-  pub todo-end : next ≢ at → Writes o at (groupsText b) o′ next
-  todo-end n = writes-as o at _ _ o′ next (some-lines (pulled b) at next (all-written .next) n) all-written
+  pub todo-end : some ≡ true → Writes o at (groupsText b) o′ next
+  todo-end e = writes-as (some-lines (pulled b) (sym e ∙ all-told)) all-written
 
-  pub todo-none : (o″ : List ℕ) (r : ℕ) → next ≡ at → Writes o′ at (ended nothing-words) o″ r → Writes o at (groupsText b) o″ r
-  todo-none o″ r e w =
-      let nothing = writes-as o at _ _ o′ next (no-bytes (speciesLines together-words (pulled b)) (omega (arith, all-written .next))) all-written in
-      writes-as o at _ _ o″ r (no-lines (pulled b) at next (all-written .next) e)
-      (writes-both o at [] (ended nothing-words) o′ o″ at r (subst (λ (m : ℕ). Writes o at [] o′ m) e nothing) w)
+  pub todo-none : some ≡ false → (o″ : List ℕ) (r : ℕ) → Writes o′ next (ended nothing-words) o″ r → Writes o at (groupsText b) o″ r
+  todo-none e o″ r w = writes-as (no-lines (pulled b) (sym e ∙ all-told)) (writes-both all-written w)

@@ -15,25 +15,26 @@ use Rattle.trees.specs.Check.{Earned, PC, R}
 use Rattle.trees.specs.Trees.{Tree, under}
 use Rattle.tables.proofs.Bytes.{entered-proper}
 use Rattle.tables.specs.Bytes.{entered}
-use Rattle.tables.specs.Index.{C}
-use Rattle.bodies.proofs.Rules.{length-good}
+use Rattle.triples.specs.Index.{C}
+use Rattle.bodies.proofs.Good.{length-good}
 use Rattle.bodies.specs.Draws.{bodyOf, treeOf}
 use Rattle.bodies.specs.Nodes.{longest}
 use Rattle.answers.proofs.Answered.{first-on, then-pass}
 use Rattle.answers.proofs.Good.{room-pass}
 use Rattle.answers.specs.Inputs.{Body, Count, Table}
 use Rattle.answers.specs.Looks.{answered, firstRefusal, lookRoom, refuseIf}
-use Rattle.answers.specs.declared.Contradiction.{Contradiction}
+use Rattle.refusals.specs.declared.Contradiction.{Contradiction}
 use Rattle.answers.specs.declared.Look.{Look}
 use Rattle.answers.specs.declared.Look.the-variants.{Pass}
-use Rattle.answers.specs.declared.Refusal.the-variants.{Contradicted, Unforced}
+use Rattle.refusals.specs.declared.Refusal.the-variants.{Contradicted, Unforced}
 use Rattle.checking.proofs.Judged.{agreed, is-earned}
 use Rattle.checking.proofs.Passing.{pc-first}
 use Rattle.checking.specs.Checks.{answerOf, candidateLooks, checkAnswer, checkTold, firstDiffers, firstUnsure, lookPC, triplesLooks}
 use Rattle.checking.specs.declared.Answer as Check
-use Rattle.loosening.specs.Loosens.{eased, lateLooks, loosenAnswer, loosenLooks, numbers, tally}
+use Rattle.easing.specs.Eases.{eased, numbers, tally}
+use Rattle.loosening.specs.Loosens.{lateLooks, loosenAnswer, loosenLooks}
 use Rattle.loosening.specs.declared.Answer.the-variants.{Done, Refused}
-use Rattle.loosening.specs.declared.Tally.{Tally}
+use Rattle.easing.specs.declared.Tally.{Tally}
 use Rattle.verdict_text.proofs.Said.{candidate-good, check-triples}
 use Rattle.sending.proofs.Final.{built-below, built-formed, final-below, final-body, final-tree, final-well}
 use Rattle.sending.proofs.Left.{done-told, left-body, left-dropped}

@@ -8,7 +8,7 @@ use Rattle.sets.specs.Species.{Below, Species}
 use Rattle.trees.specs.Trees.{under, wellFormed}
 use Rattle.trees.specs.Visits.{innerGroups}
 use Rattle.bodies.specs.Draws.{bodyOf, treeOf}
-use Rattle.loosening.specs.Loosens.{numbers}
+use Rattle.easing.specs.Eases.{numbers}
 use Rattle.writing.specs.Texts.{ended}
 use Rattle.species_text.specs.Lines.{speciesLine}
 use Rattle.sending.specs.Words.{nothing-words, together-words}

@@ -4,10 +4,11 @@ use mathlib.Core.List.{List, [], _++_}
 use Prim.Native.Nat.{ℕ}
 use lib.ListN.{replicate, take}
 use Rattle.bodies.specs.Nodes.{bodyLength, longest}
-use Rattle.loosening.specs.Loosens.{Lent, lent, loosenAfter, loosenAnswer}
+use Rattle.easing.specs.Eases.{Lent, lent}
+use Rattle.loosening.specs.Loosens.{loosenAfter, loosenAnswer}
 use Rattle.loosening.specs.declared.Answer.{Answer}
 use Rattle.loosening.specs.declared.Answer.the-variants.{Done, Refused}
-use Rattle.loosening.specs.declared.Tally.{Tally}
+use Rattle.easing.specs.declared.Tally.{Tally}
 use Rattle.species_text.specs.Lines.{treeLine}
 use Rattle.verdict_text.specs.Verdict.{verdictText}
 use Rattle.sending.specs.Pulls.{groupsText, speciesLines}

@@ -1,6 +1,4 @@
 // What `pull` prints of a built tree: its check, the tree that may be sent, what was dropped, and the groups to pull by.
-ghost use Prim.Native.Nat.{_+_, _*_, _≤_};
-ghost use lib.ListN.{length};
 ghost use Rattle.answers.specs.Inputs.{Body, Count};
 ghost use Rattle.writing.specs.Writes.{Writes};
 ghost use Rattle.sending.specs.Words.{dropped-word};
@@ -9,9 +7,7 @@ ghost use Rattle.sending.specs.Sends.{linesText, sendText, sentText};
 
 // Writes a line for each set that was dropped.
 fn put_dropped(out: &mut [u8], at: usize, l: &[u64]) -> usize
-    requires { ⌜ at + 201 * length (now l) ≤ length (now out) ⌝ }
     ensures { λ r. ⌜ Writes (now (out .entry)) at (speciesLines dropped-word (now (l .entry))) (now (out .exit)) r ⌝ }
-    ensures few { λ r. ⌜ r ≤ at + 201 * length (now (l .entry)) ⌝ }
 {
     let mut next = at;
     let mut i = 0;
@@ -24,33 +20,32 @@ fn put_dropped(out: &mut [u8], at: usize, l: &[u64]) -> usize
 
 // Writes a line for each group to pull by: the inner nodes behind the root, of a body in preorder.
 fn put_groups(out: &mut [u8], at: usize, body: &[u8]) -> usize
-    requires { ⌜ (at + 12834 ≤ length (now out)) × InPreorder (now body) ⌝ }
+    requires { ⌜ InPreorder (now body) ⌝ }
     ensures { λ r. ⌜ Writes (now (out .entry)) at (groupsText (now (body .entry))) (now (out .exit)) r ⌝ }
-    ensures few { λ r. ⌜ r ≤ at + 12834 ⌝ }
 {
     let mut groups = [0; bodies::MOST_NODES];
     groups::groups(body, &mut groups);
     let count = bodies::node_count(body);
     let mut next = at;
+    let mut some = false;
     let mut i = 1;
     while i < count {
         if bodies::species(body, i) == bodies::NONE {
             next = species_text::put_species(out, next, b"pull together:", groups[i]);
+            some = true;
         }
         i += 1;
     }
-    if next == at {
-        return writing::put_word(out, at, b"pull nothing together: the tree has no group\n");
+    if some {
+        return next;
     }
-    next
+    writing::put_word(out, next, b"pull nothing together: the tree has no group\n")
 }
 
 // Writes the tree that may be sent, what was dropped, and the groups to pull by.
 fn put_lines(out: &mut [u8], at: usize, n: usize, body: &[u8], dropped: &[u64]) -> usize
-    requires { ⌜ (at + 25618 ≤ length (now out)) × (length (now dropped) ≤ 62) ⌝ }
     requires { ⌜ Count n × Body n (now body) × InPreorder (now body) ⌝ }
     ensures { λ r. ⌜ Writes (now (out .entry)) at (linesText (now (body .entry)) (now (dropped .entry))) (now (out .exit)) r ⌝ }
-    ensures few { λ r. ⌜ r ≤ at + 25618 ⌝ }
 {
     let a = species_text::put_tree(out, at, b"may be sent: ", n, body);
     let b = put_dropped(out, a, dropped);
@@ -59,9 +54,8 @@ fn put_lines(out: &mut [u8], at: usize, n: usize, body: &[u8], dropped: &[u64]) 
 
 // Loosens the tree of a good body, and writes what comes of it.
 fn put_sent(out: &mut [u8], at: usize, n: usize, t: &[u8], body: &[u8]) -> usize
-    requires { ⌜ (at + 25618 ≤ length (now out)) × Count n × Body n (now body) ⌝ }
+    requires { ⌜ Count n × Body n (now body) ⌝ }
     ensures { λ r. ⌜ Writes (now (out .entry)) at (sentText n (now (t .entry)) (now (body .entry))) (now (out .exit)) r ⌝ }
-    ensures few { λ r. ⌜ r ≤ at + 25618 ⌝ }
 {
     let mut room = [0; bodies::LONGEST];
     let mut list = [0; loosening::MOST_DROPPED];
@@ -78,9 +72,8 @@ fn put_sent(out: &mut [u8], at: usize, n: usize, t: &[u8], body: &[u8]) -> usize
 
 // Writes what is printed of the tree of a good body, built from the table t of n species.
 pub fn send(out: &mut [u8], at: usize, n: usize, t: &[u8], body: &[u8]) -> usize
-    requires { ⌜ (at + 26000 ≤ length (now out)) × Count n × Body n (now body) ⌝ }
+    requires { ⌜ Count n × Body n (now body) ⌝ }
     ensures { λ r. ⌜ Writes (now (out .entry)) at (sendText n (now (t .entry)) (now (body .entry))) (now (out .exit)) r ⌝ }
-    ensures few { λ r. ⌜ r ≤ at + 26000 ⌝ }
 {
     let next = verdict_text::put_verdict(out, at, n, t, body);
     put_sent(out, next, n, t, body)

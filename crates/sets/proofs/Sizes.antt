@@ -22,6 +22,9 @@ pub size-empty : size 0 ≡ 0
 unfolding ones
 size-empty = refl
 
+pub not-empty : (s : ℕ) → 0 < size s → s ≢ 0
+not-empty s h e = omega (arith, ap size e, size-empty)
+
 pub size-zero : (s : ℕ) → size s ≡ 0 → s ≡ 0
 size-zero =
     bin-ind (λ (s : ℕ). size s ≡ 0 → s ≡ 0) (λ h. refl)

@@ -5,9 +5,10 @@ use mathlib.Core.Bool.{cond}
 use mathlib.Core.List.{List, [], _∷_, _++_}
 use Prim.Native.Nat.{ℕ}
 use lib.Dec.{eqb}
-use lib.ListN.{replicate, take}
-use Rattle.tables.specs.Index.{C}
+use lib.ListN.{getD, replicate, take}
+use Rattle.triples.specs.Index.{C}
 use Rattle.bodies.specs.Nodes.{bodyLength, longest}
+use Rattle.refusals.specs.Told.{unnamed}
 use Rattle.collections.specs.declared.Answer as Reading
 use Rattle.collections.specs.Reads.{readAnswer, readTold}
 use Rattle.listing.specs.Lists.{listAfter}
@@ -15,7 +16,6 @@ use Rattle.building.specs.Builds.{answerTold, buildAfter, buildAnswer}
 use Rattle.building.specs.declared.Answer as Building
 use Rattle.checking.specs.Checks.{checkAnswer, checkTold}
 use Rattle.checking.specs.declared.Answer as Checking
-use Rattle.replies.specs.Plain.{Item, Plain, broken-rule, plain, plain-number}
 use Rattle.shelf_text.specs.Texts.{line, numbers}
 
 -- the words read, build, check
@@ -28,42 +28,28 @@ build-word = 98 ∷ 117 ∷ 105 ∷ 108 ∷ 100 ∷ []
 abbrev pub check-word : List ℕ
 check-word = 99 ∷ 104 ∷ 101 ∷ 99 ∷ 107 ∷ []
 
--- "the number, tree number and node, with 0 for what that refusal lacks": the count of bytes left over, which 4 returns, is no tree number
-abbrev pub treeIn : ℕ → List Item → ℕ
-treeIn k [] = 0
-treeIn k (plain-number x ∷ []) = cond (eqb k 4) 0 x
-treeIn k (plain-number x ∷ (plain-number y ∷ [])) = 0
-treeIn k (plain-number x ∷ (plain-number y ∷ (i ∷ l))) = x
-treeIn k (plain-number x ∷ (broken-rule f ∷ l)) = 0
-treeIn k (broken-rule f ∷ l) = 0
+-- "the number, tree number and node, with 0 for what that refusal lacks": the first value and the second, but 4 returns the count of bytes left over
+abbrev pub treeIn : ℕ → List ℕ → ℕ
+treeIn k vs = cond (eqb k 4) 0 (getD vs 0 0)
 
-abbrev pub nodeIn : List Item → ℕ
-nodeIn [] = 0
-nodeIn (i ∷ []) = 0
-nodeIn (i ∷ (j ∷ [])) = 0
-nodeIn (i ∷ (plain-number y ∷ (k ∷ l))) = y
-nodeIn (i ∷ (broken-rule f ∷ (k ∷ l))) = 0
+abbrev pub nodeIn : ℕ → List ℕ → ℕ
+nodeIn k vs = cond (eqb k 4) 0 (getD vs 1 0)
 
-abbrev pub unreadNumbers : Plain → List ℕ
-unreadNumbers p = p .number ∷ treeIn (p .number) (p .items) ∷ nodeIn (p .items) ∷ []
+abbrev pub unreadNumbers : ℕ → List ℕ → List ℕ
+unreadNumbers k vs = k ∷ treeIn k vs ∷ nodeIn k vs ∷ []
 
 -- the number, and the first value where there is one: 0 with the node count, 10 with the set, 11 and 12 with the triple index
-abbrev pub firstItem : List Item → List ℕ
-firstItem [] = []
-firstItem (plain-number x ∷ l) = x ∷ []
-firstItem (broken-rule f ∷ l) = []
-
-abbrev pub shownNumbers : Plain → List ℕ
-shownNumbers p = p .number ∷ firstItem (p .items)
+abbrev pub shownNumbers : ℕ → List ℕ → List ℕ
+shownNumbers k vs = k ∷ take 1 vs
 
 abbrev pub readNumbers : Reading.Answer → List ℕ
-readNumbers a = unreadNumbers (plain (readTold a))
+readNumbers a = unreadNumbers (readTold a .number) (unnamed (readTold a .values))
 
 abbrev pub buildNumbers : Building.Answer → List ℕ
-buildNumbers a = shownNumbers (plain (answerTold a))
+buildNumbers a = shownNumbers (answerTold a .number) (unnamed (answerTold a .values))
 
 abbrev pub checkNumbers : Checking.Answer → List ℕ
-checkNumbers a = shownNumbers (plain (checkTold a))
+checkNumbers a = shownNumbers (checkTold a .number) (unnamed (checkTold a .values))
 
 -- the body b, and the line of its check against the table t of n species
 abbrev pub bodyText : ℕ → List ℕ → List ℕ → List ℕ

@@ -12,7 +12,7 @@ use Rattle.answers.proofs.Good.{body-pass, count-pass, room-pass}
 use Rattle.answers.specs.Inputs.{Body, Count}
 use Rattle.answers.specs.Looks.{firstRefusal, lookCount, lookLength, lookRoom, lookRules}
 use Rattle.answers.specs.declared.Look.the-variants.{Pass}
-use Rattle.answers.specs.declared.Refusal.{Refusal}
+use Rattle.refusals.specs.declared.Refusal.{Refusal}
 use Rattle.rendering.proofs.Texts.{body-longest}
 use Rattle.rendering.specs.Renders.{Renders, renderDone, renderLooks}
 use Rattle.rendering.specs.Texts.{newickText, textRoom}
@@ -39,14 +39,11 @@ module _ {n : ℕ} {b : List ℕ} (c : Count n) (g : Body n b) where
     not-refused x e = let q = sym e ∙ is-done in let z : _≡_ {A = ℕ} 0 1 = cc in omega arith
 
     module _ (x : Text) (e : r ≡ Done x) where
-      pub text-long : x .length ≡ length (newickText b)
+      text-long : x .length ≡ length (newickText b)
       text-long = let q : Done x ≡ Done (renderDone b) = sym e ∙ is-done in let z : x ≡ renderDone b = cc in ap (λ (k : Text). k .length) z
 
-      pub text-few : x .length ≤ 308
-      text-few = omega (arith, text-long, body-longest c g)
-
       pub text-inside : x .length ≤ length o′
-      text-inside = omega (arith, text-few, ap length leaves, length-sets o 0 (newickText b), h)
+      text-inside = omega (arith, text-long, body-longest c g, ap length leaves, length-sets o 0 (newickText b), h)
 
       pub text-is : take (x .length) o′ ≡ newickText b
       text-is = rw (text-long, leaves) (written-body o (newickText b) (omega (arith, body-longest c g, h)))

@@ -1,15 +1,11 @@
 // Lines of species, and lines of a tree: each function writes at `at`, and answers where the next byte goes.
-ghost use Prim.Native.Nat.{_+_, _≤_};
-ghost use lib.ListN.{length};
 ghost use Rattle.answers.specs.Inputs.{Body, Count};
 ghost use Rattle.writing.specs.Writes.{Writes};
 ghost use Rattle.species_text.specs.Lines.{speciesLine, treeLine};
 
-// Writes a line of a word and the species of a set, from the lowest up. A species takes three bytes at most.
+// Writes a line of a word and the species of a set, from the lowest up.
 pub fn put_species(out: &mut [u8], at: usize, w: &[u8], s: u64) -> usize
-    requires { ⌜ at + length (now w) + 193 ≤ length (now out) ⌝ }
     ensures { λ r. ⌜ Writes (now (out .entry)) at (speciesLine (now (w .entry)) s) (now (out .exit)) r ⌝ }
-    ensures few { λ r. ⌜ r ≤ at + length (now (w .entry)) + 193 ⌝ }
 {
     let mut next = writing::put_word(out, at, w);
     let mut left = s;
@@ -23,10 +19,8 @@ pub fn put_species(out: &mut [u8], at: usize, w: &[u8], s: u64) -> usize
 
 // Writes a line of a word and the tree of a good body.
 pub fn put_tree(out: &mut [u8], at: usize, w: &[u8], n: usize, body: &[u8]) -> usize
-    requires { ⌜ at + length (now w) + 309 ≤ length (now out) ⌝ }
     requires { ⌜ Count n × Body n (now body) ⌝ }
     ensures { λ r. ⌜ Writes (now (out .entry)) at (treeLine (now (w .entry)) (now (body .entry))) (now (out .exit)) r ⌝ }
-    ensures few { λ r. ⌜ r ≤ at + length (now (w .entry)) + 309 ⌝ }
 {
     let mut text = [0; rendering::LONGEST];
     let answer = rendering::render(n, body, &mut text);

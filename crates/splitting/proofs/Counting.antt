@@ -15,7 +15,7 @@ use Rattle.sets.specs.Sets.{Lowest, Rest, has, meet, minus, single, size, upto}
 use Rattle.sets.specs.Species.{Species}
 use Rattle.trees.proofs.Combinations.{C-more, C-none, C-one, C-rule}
 use Rattle.trees.specs.Combinations.{C}
-use Rattle.tables.proofs.Indices.{halves, sixths}
+use Rattle.triples.proofs.Indices.{halves, sixths}
 
 -- ---- few enough for a number
 

@@ -1,7 +1,5 @@
 // The line of each call that reads a collection, fills a table or builds from one: the operation is called, and its reply is written, with what it left in the lent table or room.
 ghost use mathlib.Core.Path.{_≡_};
-ghost use Prim.Native.Nat.{_+_, _*_, _≤_};
-ghost use lib.ListN.{length};
 ghost use Rattle.listing.specs.Lists.{listAfter};
 ghost use Rattle.entering.specs.Enters.{enterAfter};
 ghost use Rattle.building.specs.Builds.{buildAfter};
@@ -11,7 +9,6 @@ ghost use Rattle.table_lines.specs.Lines.{readLine, listLine, enterLine,
 
 // Reads a collection, and writes the line of the call.
 pub fn read_line(out: &mut [u8], at: usize, b: &[u8]) -> usize
-    requires { ⌜ at + 100 ≤ length (now out) ⌝ }
     ensures { λ r. ⌜ Writes (now (out .entry)) at (readLine (now (b .entry))) (now (out .exit)) r ⌝ }
 {
     reply_text::put_line(out, at, replies::read(collections::read(b)))
@@ -19,7 +16,6 @@ pub fn read_line(out: &mut [u8], at: usize, b: &[u8]) -> usize
 
 // Lists a collection into the table t, and writes the line of the call.
 pub fn list_line(out: &mut [u8], at: usize, b: &[u8], t: &mut [u8]) -> usize
-    requires { ⌜ at + 4 * length (now t) + 100 ≤ length (now out) ⌝ }
     ensures { λ r. ⌜ Writes (now (out .entry)) at (listLine (now (b .entry)) (now (t .entry))) (now (out .exit)) r ⌝ }
     ensures { λ _. ⌜ now (t .exit) ≡ listAfter (now (b .entry)) (now (t .entry)) ⌝ }
 {
@@ -29,7 +25,6 @@ pub fn list_line(out: &mut [u8], at: usize, b: &[u8], t: &mut [u8]) -> usize
 
 // Enters records into the table t, and writes the line of the call.
 pub fn enter_line(out: &mut [u8], at: usize, n: usize, records: &[[u8; 3]], t: &mut [u8]) -> usize
-    requires { ⌜ at + 4 * length (now t) + 100 ≤ length (now out) ⌝ }
     ensures { λ r. ⌜ Writes (now (out .entry)) at (enterLine n (now (records .entry)) (now (t .entry))) (now (out .exit)) r ⌝ }
     ensures { λ _. ⌜ now (t .exit) ≡ enterAfter n (now (records .entry)) (now (t .entry)) ⌝ }
 {
@@ -39,7 +34,6 @@ pub fn enter_line(out: &mut [u8], at: usize, n: usize, records: &[[u8; 3]], t: &
 
 // Builds the tree of a set of species, of the table t, and writes the line of the call.
 pub fn build_line(out: &mut [u8], at: usize, n: usize, set: u64, t: &[u8], room: &mut [u8]) -> usize
-    requires { ⌜ at + 4 * length (now room) + 100 ≤ length (now out) ⌝ }
     ensures { λ r. ⌜ Writes (now (out .entry)) at (buildLine n set (now (t .entry)) (now (room .entry))) (now (out .exit)) r ⌝ }
     ensures { λ _. ⌜ now (room .exit) ≡ buildAfter n set (now (t .entry)) (now (room .entry)) ⌝ }
 {
@@ -49,7 +43,6 @@ pub fn build_line(out: &mut [u8], at: usize, n: usize, set: u64, t: &[u8], room:
 
 // Makes the veto build of a set of species, of the table t, and writes the line of the call.
 pub fn veto_line(out: &mut [u8], at: usize, n: usize, set: u64, t: &[u8], room: &mut [u8]) -> usize
-    requires { ⌜ at + 4 * length (now room) + 100 ≤ length (now out) ⌝ }
     ensures { λ r. ⌜ Writes (now (out .entry)) at (vetoLine n set (now (t .entry)) (now (room .entry))) (now (out .exit)) r ⌝ }
     ensures { λ _. ⌜ now (room .exit) ≡ vetoAfter n set (now (t .entry)) (now (room .entry)) ⌝ }
 {

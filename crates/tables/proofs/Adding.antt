@@ -18,12 +18,12 @@ use Rattle.trees.proofs.Triplets.{different-i}
 use Rattle.trees.specs.Triplets.{different, only}
 use Rattle.tables.proofs.Bytes.{enter-length, enter-stays}
 use Rattle.tables.proofs.Fillings.{byte-both, table-at, table-length}
-use Rattle.tables.proofs.Indices.{index-inj, triple-back}
+use Rattle.triples.proofs.Indices.{index-inj, triple-back}
 use Rattle.tables.proofs.Places.{bit-ab, bit-ac, bit-bc, bit-most, place-ab, place-ac, place-bc, same-only}
 use Rattle.tables.specs.Adds.{Adds}
 use Rattle.tables.specs.Bytes.{added, bitOf, enter, placeOf}
 use Rattle.tables.specs.Filled.{Said, bothSaid, byteFor, byteOf, plain, tableFor}
-use Rattle.tables.specs.Index.{C, highAt, index, lowAt, midAt}
+use Rattle.triples.specs.Index.{C, highAt, index, lowAt, midAt}
 
 -- ---- stretch after stretch
 

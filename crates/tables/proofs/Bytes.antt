@@ -18,7 +18,7 @@ use Rattle.trees.specs.Triplets.{Proper, both, different, only}
 use Rattle.trees.proofs.Combinations.{C-more}
 use Rattle.tables.proofs.Places.{bit-ab, bit-ac, bit-bc, bit-most, bit-swap, place-ab, place-ac, place-bc, place-swap, same-only}
 use Rattle.tables.specs.Bytes.{Byte, Entered, bitOf, disagree, enter, entered, fanBit, fanned, fits, marked, placeOf}
-use Rattle.tables.specs.Index.{C, high, index}
+use Rattle.triples.specs.Index.{C, high, index}
 
 -- ---- what is entered
 

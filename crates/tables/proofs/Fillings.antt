@@ -15,10 +15,10 @@ use Rattle.trees.proofs.Triples.{agree-all, swap-same}
 use Rattle.trees.proofs.Triplets.{different-e, different-i}
 use Rattle.trees.specs.Triplets.{Proper, different}
 use Rattle.tables.proofs.Bytes.{byte-says, entered-proper, entered-same}
-use Rattle.tables.proofs.Indices.{high-of, index-lt, low-of, mid-of}
+use Rattle.triples.proofs.Indices.{high-of, index-lt, low-of, mid-of}
 use Rattle.tables.specs.Bytes.{Small, entered, fanBit, signAB, signAC, signBC, signFan}
 use Rattle.tables.specs.Filled.{Said, bothSaid, byteFor, byteOf, bytesFrom, tableFor}
-use Rattle.tables.specs.Index.{C, highAt, index, lowAt, midAt}
+use Rattle.triples.specs.Index.{C, highAt, index, lowAt, midAt}
 
 -- ---- the byte of a triple
 

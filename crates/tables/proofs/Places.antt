@@ -10,9 +10,9 @@ use lib.Dec.{eqb, ltb}
 use Rattle.sets.proofs.Bools.{and-i, and-l, and-r, bool-ext, by-order, ne-e, test}
 use Rattle.trees.proofs.Triplets.{different-e, different-swap, only-e, only-i}
 use Rattle.trees.specs.Triplets.{different, only}
-use Rattle.tables.proofs.Indices.{index-inj, index-lt}
+use Rattle.triples.proofs.Indices.{index-inj, index-lt}
 use Rattle.tables.specs.Bytes.{bitOf, placeOf}
-use Rattle.tables.specs.Index.{C, high, index, low, mid}
+use Rattle.triples.specs.Index.{C, high, index, low, mid}
 
 -- ---- the bit, by the order of the third species and the other two
 

@@ -13,10 +13,10 @@ use Rattle.sets.proofs.Tests.{has-below}
 use Rattle.sets.specs.Sets.{has}
 use Rattle.trees.specs.Triplets.{Proper}
 use Rattle.tables.proofs.Fillings.{byte-bits, byte-most, table-index, table-length, table-says, table-small}
-use Rattle.tables.proofs.Indices.{triple-back}
+use Rattle.triples.proofs.Indices.{triple-back}
 use Rattle.tables.specs.Bytes.{Small, entered}
 use Rattle.tables.specs.Filled.{Said, byteFor, tableFor}
-use Rattle.tables.specs.Index.{highAt, index, lowAt, midAt}
+use Rattle.triples.specs.Index.{highAt, index, lowAt, midAt}
 use Rattle.tables.specs.Tells.{TableTells, Tells}
 
 -- the same told otherwise

@@ -4,7 +4,7 @@ use mathlib.Core.Path.{_≡_}
 use Prim.Native.Nat.{ℕ, _<_, _≤_}
 use lib.ListN.{getD, length}
 use Rattle.sets.specs.Sets.{union}
-use Rattle.tables.specs.Index.{index}
+use Rattle.triples.specs.Index.{index}
 
 -- t′ is t with the bits of w a b c added to the byte of each triple a < b < c from place lo on and before hi; every other byte is as it was
 pub record Adds (w : ℕ → ℕ → ℕ → ℕ) (lo hi : ℕ) (t t′ : List ℕ) : Type 0 where

@@ -10,7 +10,7 @@ use lib.Dec.{eqb, ltb}
 use lib.ListN.{length, getD, set}
 use Rattle.sets.specs.Sets.{has, union, single}
 use Rattle.trees.specs.Triplets.{Triplets, different, only, both}
-use Rattle.tables.specs.Index.{C, index, low, mid, high}
+use Rattle.triples.specs.Index.{C, index, low, mid, high}
 
 -- "A triplet table has exactly C(n,3) bytes"
 abbrev pub fits : List ℕ → ℕ → Bool

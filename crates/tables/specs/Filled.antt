@@ -7,7 +7,7 @@ use Prim.Native.Nat.{ℕ, zero, suc, _+_}
 use Rattle.trees.specs.Trees.{Tree}
 use Rattle.trees.specs.Triplets.{Triplets, both, fan, holds}
 use Rattle.tables.specs.Bytes.{signAB, signAC, signBC, signFan}
-use Rattle.tables.specs.Index.{C, lowAt, midAt, highAt}
+use Rattle.triples.specs.Index.{C, lowAt, midAt, highAt}
 
 -- triplets, and fans of three species
 pub record Said : Type 0 where

@@ -1,9 +1,5 @@
--- Triples, their indices, and the table of entered triplets: definitions only. What is proved of them stands in `proofs/`.
-pub mod Index
+-- The table of entered triplets: definitions only. What is proved of them stands in `proofs/`.
 pub mod Bytes
-pub mod Find
-pub mod Finds
 pub mod Filled
 pub mod Adds
 pub mod Tells
-pub mod Named

@@ -8,7 +8,7 @@ use Prim.Native.Nat.{ℕ, _<_, _≤_}
 use lib.ListN.{getD, length}
 use Rattle.sets.specs.Sets.{has}
 use Rattle.tables.specs.Bytes.{fanBit}
-use Rattle.tables.specs.Index.{C, index}
+use Rattle.triples.specs.Index.{C, index}
 
 -- the bits of the byte v are exactly those that P, for the triplets, and F, for the fan, tell of the triple a < b < c, and it has no other
 pub record Tells (v : ℕ) (P F : ℕ → ℕ → ℕ → Type 0) (a b c : ℕ) : Type 0 where

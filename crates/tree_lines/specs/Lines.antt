@@ -7,9 +7,14 @@ use Rattle.ordering.specs.Orders.{orderAnswer, orderAfter, orderTold}
 use Rattle.parsing.specs.Parses.{parseAfter, parseAnswer, parseTold}
 use Rattle.rendering.specs.Renders.{renderAfter, renderAnswer, renderTold}
 use Rattle.checking.specs.Checks.{checkAnswer, checkTold}
-use Rattle.loosening.specs.Loosens.{lent, loosenAfter, loosenAnswer, loosenTold}
+use Rattle.easing.specs.Eases.{Lent, lent}
+use Rattle.loosening.specs.Loosens.{loosenAfter, loosenAnswer, loosenTold}
 use Rattle.writing.specs.Texts.{ended}
-use Rattle.reply_text.specs.Text.{toldText, barred, lentText}
+use Rattle.reply_text.specs.Text.{toldText, barred}
+
+-- a room, and then a list of sets
+abbrev pub lentText : Lent → List ℕ
+lentText o = barred (o .room) ++ barred (o .list)
 
 unfoldable pub orderLine : ℕ → List ℕ → List ℕ → List ℕ
 orderLine n body o = ended (toldText (orderTold (orderAnswer n body (length o))) ++ barred (orderAfter n body o))

@@ -1,9 +1,9 @@
 -- Small runs of the veto build, computed on the definitions. Assumes nothing.
-use mathlib.Core.Path.{_≡_, refl}
+use mathlib.Core.Path.{_∙_, _≡_, refl, sym}
 use Rattle.sets.specs.Species.{below, members}
 use Rattle.trees.specs.Build.{build, buildBy, buildIn, tree, veto}
 use Rattle.trees.specs.Links.{leads, part, parts}
-use Rattle.trees.specs.Trees.{Forest, cons, leaf, nil, node}
+use Rattle.trees.specs.Trees.{Forest, Tree, cons, leaf, nil, node}
 use Rattle.trees.specs.Triplets.{Triplets, both, only}
 
 abbrev pub quarrel : Triplets
@@ -29,7 +29,19 @@ unfolding buildBy buildIn parts part leads members
 veto-deep = refl
 
 -- n=4, 01|2 and 01|3: no quarrel, and the plain build's tree, ((0,1),2,3)
-pub veto-calm : (veto (both (only 0 1 2) (only 0 1 3)) 4 (below 4) ≡ tree (node (cons (node (cons (leaf 0) (cons (leaf 1) nil))) (cons (leaf 2) (cons (leaf 3) nil)))))
-    × (build (both (only 0 1 2) (only 0 1 3)) 4 (below 4) ≡ veto (both (only 0 1 2) (only 0 1 3)) 4 (below 4))
+abbrev calm : Triplets
+calm = both (only 0 1 2) (only 0 1 3)
+
+abbrev pair-first : Tree
+pair-first = node (cons (node (cons (leaf 0) (cons (leaf 1) nil))) (cons (leaf 2) (cons (leaf 3) nil)))
+
+calm-vetoed : veto calm 4 (below 4) ≡ tree pair-first
 unfolding buildBy buildIn parts part leads members
-veto-calm = (refl, refl)
+calm-vetoed = refl
+
+calm-built : build calm 4 (below 4) ≡ tree pair-first
+unfolding buildBy buildIn parts part leads members
+calm-built = refl
+
+pub veto-calm : (veto calm 4 (below 4) ≡ tree pair-first) × (build calm 4 (below 4) ≡ veto calm 4 (below 4))
+veto-calm = (calm-vetoed, calm-built ∙ sym calm-vetoed)

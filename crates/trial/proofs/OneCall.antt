@@ -7,7 +7,7 @@ use Rattle.making.specs.Made.{Waits, madeLine}
 use Rattle.making.proofs.Made.{made-else, made-whole}
 use Rattle.trial.specs.OneCall.{OneCall}
 use Rattle.calls.specs.declared.Call.{Call}
-use Rattle.calls.specs.declared.input.Input.{Input}
+use Rattle.input.specs.declared.Input.{Input}
 
 -- a call that was read, and its line
 pub one-call : {i : Input} {b b′ o o′ : List ℕ} {len r : ℕ} (c : Call) (xs : List (List ℕ)) → ReadCall i b c b′ xs → Waits o len (madeLine c xs) o′ r → OneCall i b (c .left) b′ o len o′ r

@@ -5,10 +5,10 @@ use mathlib.Core.Logic.{_⊎_}
 use mathlib.Core.Path.{_≡_}
 use Prim.Native.Nat.{ℕ}
 use Rattle.calls.specs.Calls.{CallBytes}
-use Rattle.calls.specs.Inputs.{Took}
+use Rattle.input.specs.Inputs.{Took}
 use Rattle.choosing.specs.Chosen.{lineOf}
 use Rattle.making.specs.Made.{Waits, cut-line}
-use Rattle.calls.specs.declared.input.Input.{Input}
+use Rattle.input.specs.declared.Input.{Input}
 
 -- of the input i with the buffer b, which are i′ and b′ now, the bytes of a call were read, and the text w is the line of this call
 pub record MadeFrom (i : Input) (b : List ℕ) (i′ : Input) (b′ w : List ℕ) : Type 0 where

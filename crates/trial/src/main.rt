@@ -1,10 +1,11 @@
 // Reads calls of the operations on standard input, and prints the line of each.
-use calls::input::Input;
+use input::Input;
 ghost use mathlib.Core.Path.{_≡_};
 ghost use Prim.Native.Nat.{_<_, _≤_};
 ghost use lib.ListN.{length};
-ghost use Rattle.calls.specs.Inputs.{InBuffer};
+ghost use Rattle.input.specs.Inputs.{InBuffer};
 ghost use Rattle.choosing.specs.Room.{Room};
+ghost use Rattle.making.specs.Made.{longestLine};
 ghost use Rattle.trial.specs.OneCall.{OneCall};
 
 // How many calls are made at most: the program ends.
@@ -30,7 +31,7 @@ fn one_call(
     len: usize,
 ) -> State
     requires { ⌜ InBuffer from (now buffer) × (len ≤ length (now out)) ⌝ }
-    requires { ⌜ Room 0 (now first) (now second) (now third) (now fourth) (now records) (now list) (now out) ⌝ }
+    requires { ⌜ Room (now first) (now fourth) (now records) (now list) × (longestLine (length (now second)) (length (now third)) (length (now fourth)) ≤ length (now out)) ⌝ }
     ensures { λ r. ⌜ OneCall from (now (buffer .entry)) (r .left) (now (buffer .exit)) (now (out .entry)) len (now (out .exit)) (r .len) ⌝ }
     ensures { λ r. ⌜ InBuffer (r .left) (now (buffer .exit)) × (r .len ≤ length (now (out .entry))) ⌝ }
 {
@@ -61,10 +62,10 @@ fn answer(
     list: &mut [u64],
     out: &mut [u8],
 ) -> usize
-    requires { ⌜ Room 0 (now first) (now second) (now third) (now fourth) (now records) (now list) (now out) ⌝ }
+    requires { ⌜ Room (now first) (now fourth) (now records) (now list) × (longestLine (length (now second)) (length (now third)) (length (now fourth)) ≤ length (now out)) ⌝ }
     ensures { λ r. ⌜ r ≤ length (now (out .exit)) ⌝ }
 {
-    let mut left = calls::input::begin();
+    let mut left = input::begin();
     let mut len = 0;
     let mut calls = MOST_CALLS;
     while 0 < calls {
@@ -102,10 +103,10 @@ fn no_sets() -> [u64; 8192]
 }
 
 // Room for the longest line.
-fn no_text() -> [u8; 524288]
-    ensures { λ r. ⌜ length r ≡ 524288 ⌝ }
+fn no_text() -> [u8; 3145728]
+    ensures { λ r. ⌜ length r ≡ 3145728 ⌝ }
 {
-    [0; 524288]
+    [0; 3145728]
 }
 
 fn main() {

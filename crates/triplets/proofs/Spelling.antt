@@ -11,11 +11,11 @@ use lib.ListN.{drop, drop-of-length-le, getD, length, length-map}
 use lib.Seq.{drop-cons}
 use Rattle.sets.proofs.Bools.{test}
 use Rattle.entering.proofs.Gathering.{gathered-fills, gathered-more, gathered-none, gathered-ready}
-use Rattle.entering.proofs.Records.{first-no, first-yes, firstBad-none}
+use Rattle.records.proofs.Records.{first-no, first-yes, firstBad-none}
 use Rattle.entering.specs.declared.Answer.{Answer}
 use Rattle.entering.specs.declared.Answer.the-variants.{Done, Refused}
 use Rattle.triplets.specs.declared.Triplet.{Triplet}
-use Rattle.entering.specs.Enters.{badRecord, fill, firstBad}
+use Rattle.records.specs.Records.{badRecord, fill, firstBad}
 use Rattle.entering.specs.Passes.{Ready, filled, gathered}
 use Rattle.triplets.specs.Spelled.{nearer, spelled}
 

@@ -5,7 +5,7 @@ use mathlib.Core.List.{List, [], _∷_}
 use Prim.Native.Nat.{ℕ}
 use lib.Dec.{ltb}
 use Rattle.triplets.specs.declared.Triplet.{Triplet}
-use Rattle.entering.specs.Enters.{badRecord}
+use Rattle.records.specs.Records.{badRecord}
 
 -- the record of a triplet
 abbrev pub spelled : Triplet → List ℕ

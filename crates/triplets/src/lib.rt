@@ -1,7 +1,8 @@
 // The named form of entering: a lent list of triplets by name, each read as the record of its three species.
 ghost use mathlib.Core.Path.{_≡_};
 ghost use mathlib.Core.List.{[], _∷_, map};
-ghost use Rattle.entering.specs.Enters.{firstBad, Enters};
+ghost use Rattle.records.specs.Records.{firstBad};
+ghost use Rattle.entering.specs.Enters.{Enters};
 ghost use Rattle.entering.specs.Passes.{Ready, filled, gathered};
 ghost use Rattle.triplets.specs.Spelled.{spelled, nearer};
 
@@ -20,7 +21,7 @@ fn nearer(n: usize, x: Triplet, i: usize, k: usize) -> usize
     if k <= i {
         return k;
     }
-    if entering::bad(n, x.a as usize, x.b as usize, x.c as usize) {
+    if records::bad(n, x.a as usize, x.b as usize, x.c as usize) {
         return i;
     }
     k
@@ -50,7 +51,7 @@ fn put_triplet(x: Triplet, r: entering::Answer, table: &mut [u8]) -> entering::A
             let b = x.b as usize;
             let c = x.c as usize;
             tables::put(table, a, b, c);
-            let set = entering::gather(e.set, a, b, c);
+            let set = records::gather(e.set, a, b, c);
             entering::Answer::Done(entering::Entry { n: e.n, set: set })
         }
         entering::Answer::Refused(y) => entering::Answer::Refused(y),

@@ -16,15 +16,15 @@ use Rattle.trees.specs.Check.{Forced, PC, R, sure, unsure}
 use Rattle.trees.specs.Trees.{Tree, under, wellFormed}
 use Rattle.trees.specs.Triplets.{Triplets, different, holds, onTriple}
 use Rattle.tables.proofs.Bytes.{entered-proper}
-use Rattle.tables.proofs.Find.{first-found}
-use Rattle.tables.proofs.Indices.{triple-back}
-use Rattle.tables.proofs.Names.{named-index}
+use Rattle.triples.proofs.Find.{first-found}
+use Rattle.triples.proofs.Indices.{triple-back}
+use Rattle.triples.proofs.Names.{named-index}
 use Rattle.tables.specs.Bytes.{entered}
-use Rattle.tables.specs.Find.{firstTriple}
-use Rattle.tables.specs.Index.{C, highAt, index, lowAt, midAt}
-use Rattle.tables.specs.Named.{named}
-use Rattle.tables.specs.declared.Named.the-variants.{Known}
-use Rattle.tables.specs.declared.Triple.{Triple}
+use Rattle.triples.specs.Find.{firstTriple}
+use Rattle.triples.specs.Index.{C, highAt, index, lowAt, midAt}
+use Rattle.triples.specs.Named.{named}
+use Rattle.triples.specs.declared.Named.the-variants.{Known}
+use Rattle.triples.specs.declared.Triple.{Triple}
 use Rattle.bodies.specs.Draws.{treeOf}
 use Rattle.groups.proofs.Meant.{says-exactly}
 use Rattle.groups.specs.Groups.{SaysRight, says}
@@ -34,10 +34,10 @@ use Rattle.answers.proofs.Answered.{first-on, pass-both, pass-one}
 use Rattle.answers.proofs.Good.{body-pass, count-pass, table-pass}
 use Rattle.answers.specs.Inputs.{Body, Count, Table}
 use Rattle.answers.specs.Looks.{answered, firstRefusal, lookBytes, lookCount, lookLength, lookRules, lookTable, refuseIf}
-use Rattle.answers.specs.declared.Contradiction.{Contradiction}
+use Rattle.refusals.specs.declared.Contradiction.{Contradiction}
 use Rattle.answers.specs.declared.Look.{Look}
 use Rattle.answers.specs.declared.Look.the-variants.{Pass}
-use Rattle.answers.specs.declared.Refusal.the-variants.{Contradicted, Unforced}
+use Rattle.refusals.specs.declared.Refusal.the-variants.{Contradicted, Unforced}
 use Rattle.checking.proofs.Judged.{agreed, formed, within}
 use Rattle.checking.specs.Checks.{answerOf, candidateLooks, checkAnswer, firstDiffers, firstUnsure, triplesLooks}
 use Rattle.checking.specs.declared.Answer.{Answer}

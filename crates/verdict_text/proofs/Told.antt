@@ -4,23 +4,26 @@ use mathlib.Core.List.{List, [], _∷_, _++_}
 use mathlib.Core.Path.{_∙_, _≡_, ap, refl, sym}
 use Prim.Native.Nat.{ℕ, _≤_}
 use native.Mathlib.Omega.{arith}
+use borrow.Author.Tests.{ne-eqb}
 use denote.Enum.Declared.{tagOf}
-use types.Run.{OneOf, miss}
+use types.Run.{OneOf}
 use lib.Dec.{eqb}
 use lib.ListN.{length, length-append}
 use Rattle.trees.specs.Trees.{Tree}
-use Rattle.tables.specs.Named.{named}
-use Rattle.tables.specs.declared.Named.{Named}
-use Rattle.tables.specs.declared.Named.the-variants.{Beyond, Known}
-use Rattle.tables.specs.declared.Triple.{Triple}
+use Rattle.triples.specs.Named.{named}
+use Rattle.triples.specs.declared.Named.{Named}
+use Rattle.triples.specs.declared.Named.the-variants.{Beyond, Known}
+use Rattle.triples.specs.declared.Triple.{Triple}
 use Rattle.bodies.specs.Draws.{treeOf}
 use Rattle.groups.specs.Groups.{says}
 use Rattle.groups.specs.declared.Says.{Says}
 use Rattle.groups.specs.declared.Says.the-variants.{AB, AC, Absent, BC, Fan}
-use Rattle.answers.proofs.Refusal.{the-type as refusal}
-use Rattle.answers.specs.Answers.{Told}
-use Rattle.answers.specs.declared.Refusal.{Refusal}
-use Rattle.answers.specs.declared.Refusal.the-variants.{BadByte, BadCounts, BadLength, BadRecord, BadSet, BadTable, BadText, BadTree, BadVersion, Contradicted, EndsEarly, LeftOver, NoTree, Outside, ShortRoom, Unforced}
+use Rattle.refusals.proofs.Numbers.{number-not, number-some, placesBut}
+use Rattle.refusals.proofs.Refusal.{the-type as refusal}
+use Rattle.refusals.specs.Told.{Told}
+use Rattle.refusals.specs.Refusals.{refusalTold}
+use Rattle.refusals.specs.declared.Refusal.{Refusal}
+use Rattle.refusals.specs.declared.Refusal.the-variants.{Unforced}
 use Rattle.checking.specs.Checks.{checkAnswer, checkTold}
 use Rattle.checking.specs.declared.Answer.{Answer}
 use Rattle.checking.specs.declared.Answer.the-variants.{Passes, Refused}
@@ -33,25 +36,10 @@ use Rattle.verdict_text.specs.Words.{and-word, closer-words, own-words, 
 
 -- their places in the list of all
 abbrev pub others : List ℕ
-others = 0 ∷ 1 ∷ 2 ∷ 3 ∷ 4 ∷ 5 ∷ 6 ∷ 7 ∷ 8 ∷ 9 ∷ 10 ∷ 12 ∷ 13 ∷ 14 ∷ 15 ∷ []
+others = placesBut (12 ∷ [])
 
 nothing-told : (b : List ℕ) (x : Refusal) → OneOf others (tagOf refusal x) → [] ≡ toldText b (checkTold (Refused x))
-nothing-told b BadVersion h = refl
-nothing-told b BadCounts h = refl
-nothing-told b (EndsEarly k) h = refl
-nothing-told b (LeftOver m) h = refl
-nothing-told b (BadLength k) h = refl
-nothing-told b (BadTree x) h = refl
-nothing-told b BadTable h = refl
-nothing-told b (BadByte i) h = refl
-nothing-told b ShortRoom h = refl
-nothing-told b (NoTree u) h = refl
-nothing-told b (Contradicted x) h = refl
-nothing-told b (Unforced i) h = absurd (miss others 11 tt h)
-nothing-told b (BadRecord i) h = refl
-nothing-told b (BadText p) h = refl
-nothing-told b BadSet h = refl
-nothing-told b (Outside i) h = refl
+nothing-told b x h = rw (ne-eqb (refusalTold x .number) 0 (number-some x), number-not others x 12 tt h) refl
 
 -- ---- the answer a of the check
 

@@ -6,12 +6,12 @@ use native.Mathlib.Decide.{decLt}
 use native.Mathlib.Omega.{arith}
 use Rattle.trees.proofs.Triplets.{different-i}
 use Rattle.trees.specs.Triplets.{different}
-use Rattle.tables.proofs.Indices.{triple-back}
-use Rattle.tables.proofs.Names.{named-as, named-beyond}
-use Rattle.tables.specs.Index.{C, highAt, lowAt, midAt}
-use Rattle.tables.specs.Named.{named}
-use Rattle.tables.specs.declared.Named.the-variants.{Beyond, Known}
-use Rattle.tables.specs.declared.Triple.{Triple}
+use Rattle.triples.proofs.Indices.{triple-back}
+use Rattle.triples.proofs.Names.{named-as, named-beyond}
+use Rattle.triples.specs.Index.{C, highAt, lowAt, midAt}
+use Rattle.triples.specs.Named.{named}
+use Rattle.triples.specs.declared.Named.the-variants.{Beyond, Known}
+use Rattle.triples.specs.declared.Triple.{Triple}
 
 -- its species are in increasing order, and below 64
 abbrev Rising : Triple → Type 0

@@ -1,11 +1,11 @@
 -- The line of a worked example: computed on the definitions. Assumes nothing.
 use mathlib.Core.List.{[], _∷_}
 use mathlib.Core.Path.{_≡_, refl}
-use Rattle.tables.specs.Index.{C, highAt, largest, lowAt, midAt}
-use Rattle.tables.specs.Named.{named, tripleAt}
+use Rattle.triples.specs.Index.{C, highAt, largest, lowAt, midAt}
+use Rattle.triples.specs.Named.{named, tripleAt}
 use Rattle.bodies.specs.Draws.{treeAt}
 use Rattle.bodies.specs.Nodes.{children}
-use Rattle.answers.specs.declared.Refusal.the-variants.{Unforced}
+use Rattle.refusals.specs.declared.Refusal.the-variants.{Unforced}
 use Rattle.checking.specs.Checks.{checkTold}
 use Rattle.checking.specs.declared.Answer.the-variants.{Refused}
 use Rattle.writing.specs.Texts.{digitsIn}

@@ -5,15 +5,15 @@ use mathlib.Core.List.{List, [], _∷_, _++_}
 use Prim.Native.Nat.{ℕ}
 use lib.Dec.{eqb}
 use Rattle.trees.specs.Trees.{Tree}
-use Rattle.tables.specs.Named.{named}
-use Rattle.tables.specs.declared.Named.{Named}
-use Rattle.tables.specs.declared.Named.the-variants.{Beyond, Known}
-use Rattle.tables.specs.declared.Triple.{Triple}
+use Rattle.triples.specs.Named.{named}
+use Rattle.triples.specs.declared.Named.{Named}
+use Rattle.triples.specs.declared.Named.the-variants.{Beyond, Known}
+use Rattle.triples.specs.declared.Triple.{Triple}
 use Rattle.bodies.specs.Draws.{treeOf}
 use Rattle.groups.specs.Groups.{says}
 use Rattle.groups.specs.declared.Says.{Says}
 use Rattle.groups.specs.declared.Says.the-variants.{AB, AC, Absent, BC, Fan}
-use Rattle.answers.specs.Answers.{Told, Value, rule-broken, value}
+use Rattle.refusals.specs.Told.{Told, Value}
 use Rattle.checking.specs.Checks.{checkAnswer, checkTold}
 use Rattle.writing.specs.Texts.{decimal, ended}
 use Rattle.verdict_text.specs.Words.{and-word, closer-words, own-words, unforced-words}
@@ -38,8 +38,7 @@ tripleText T Beyond = []
 -- the index that 12 returns
 abbrev pub indexIn : List Value → ℕ
 indexIn [] = 0
-indexIn (value k i ∷ l) = i
-indexIn (rule-broken f ∷ l) = 0
+indexIn (v ∷ l) = v .number
 
 -- by the number that the check of the body b tells: 0 where it passes; 12 with its index; no text for any other
 abbrev pub toldText : List ℕ → Told → List ℕ

@@ -1,7 +1,5 @@
 // The line of the check of a built tree: that it passes, or the first triplet that is not forced. Each function writes at `at`, and answers where the next byte goes.
-ghost use Prim.Native.Nat.{_+_, _≤_};
-ghost use lib.ListN.{length};
-ghost use Rattle.tables.specs.Named.{named};
+ghost use Rattle.triples.specs.Named.{named};
 ghost use Rattle.bodies.specs.Draws.{treeOf};
 ghost use Rattle.answers.specs.Inputs.{Body, Count};
 ghost use Rattle.writing.specs.Writes.{Writes};
@@ -9,7 +7,6 @@ ghost use Rattle.verdict_text.specs.Verdict.{closerText, saidText, tripl
 
 // Writes the line of a triplet that is not forced.
 fn put_closer(out: &mut [u8], at: usize, a: usize, b: usize, c: usize) -> usize
-    requires { ⌜ at + 122 ≤ length (now out) ⌝ }
     ensures { λ r. ⌜ Writes (now (out .entry)) at (closerText a b c) (now (out .exit)) r ⌝ }
 {
     let p = writing::put_word(out, at, b"not forced by the papers: ");
@@ -22,8 +19,7 @@ fn put_closer(out: &mut [u8], at: usize, a: usize, b: usize, c: usize) -> usize
 }
 
 // Writes the line of what a tree says of a triple.
-fn put_said(out: &mut [u8], at: usize, x: tables::Triple, s: groups::Says) -> usize
-    requires { ⌜ at + 122 ≤ length (now out) ⌝ }
+fn put_said(out: &mut [u8], at: usize, x: triples::Triple, s: groups::Says) -> usize
     ensures { λ r. ⌜ Writes (now (out .entry)) at (saidText x s) (now (out .exit)) r ⌝ }
 {
     match s {
@@ -37,37 +33,31 @@ fn put_said(out: &mut [u8], at: usize, x: tables::Triple, s: groups::Says) -> us
 
 // Writes the line of what the tree of a good body says of the triple with index i.
 fn put_triple(out: &mut [u8], at: usize, body: &[u8], i: usize) -> usize
-    requires { ⌜ (at + 122 ≤ length (now out)) × Body 64 (now body) ⌝ }
+    requires { ⌜ Body 64 (now body) ⌝ }
     ensures { λ r. ⌜ Writes (now (out .entry)) at (tripleText (treeOf (now (body .entry))) (named i)) (now (out .exit)) r ⌝ }
 {
-    let found = tables::triple_at(i);
+    let found = triples::triple_at(i);
     match found {
-        tables::Named::Known(x) => {
+        triples::Named::Known(x) => {
             let mut groups = [0; bodies::MOST_NODES];
-            groups::groups(body, &mut groups);
             let mut meets = [0; groups::CELLS];
-            groups::pairs(body, &groups, &mut meets);
-            put_said(
-                out,
-                at,
-                x,
-                groups::ask(groups[0], &meets, x.low, x.mid, x.high),
-            )
+            let whole = groups::draw(body, &mut groups, &mut meets);
+            put_said(out, at, x, groups::ask(whole, &meets, x.low, x.mid, x.high))
         }
-        tables::Named::Beyond => at,
+        triples::Named::Beyond => at,
     }
 }
 
 // Checks the tree of a good body, and writes the line of that.
 pub fn put_verdict(out: &mut [u8], at: usize, n: usize, t: &[u8], body: &[u8]) -> usize
-    requires { ⌜ (at + 122 ≤ length (now out)) × Count n × Body n (now body) ⌝ }
+    requires { ⌜ Count n × Body n (now body) ⌝ }
     ensures { λ r. ⌜ Writes (now (out .entry)) at (verdictText n (now (t .entry)) (now (body .entry))) (now (out .exit)) r ⌝ }
 {
     let answer = checking::check(n, t, body);
     match answer {
         checking::Answer::Passes => writing::put_word(out, at, b"every group is the papers' own\n"),
         checking::Answer::Refused(x) => match x {
-            answers::Refusal::Unforced(i) => put_triple(out, at, body, i),
+            refusals::Refusal::Unforced(i) => put_triple(out, at, body, i),
             _ => at,
         },
     }

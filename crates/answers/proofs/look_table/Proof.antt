@@ -11,7 +11,7 @@ use Rattle.sets.proofs.Bools.{or-none}
 use Rattle.tables.specs.Bytes.{over, wrongLength}
 use Rattle.answers.specs.Looks.{wrongCount}
 use Rattle.answers.specs.declared.Look.the-variants.{Refuse}
-use Rattle.answers.specs.declared.Refusal.the-variants.{BadByte}
+use Rattle.refusals.specs.declared.Refusal.the-variants.{BadByte}
 use Rattle.answers.proofs.look_table.Statement.{statement}
 use Rattle.answers.proofs.look_table.Tie as tie
 

@@ -2,7 +2,7 @@
 use mathlib.Core.Path.{_∙_, sym}
 use borrow.Author.Needs.{needs}
 use lib.ListN.{length}
-use Rattle.building.proofs.Chosen.{input-asks}
+use Rattle.admitting.proofs.Chosen.{input-asks}
 use Rattle.building.proofs.Whole.{vetoes, vetoes-not}
 use Rattle.building.proofs.veto.Statement.{statement}
 use Rattle.building.proofs.veto.Tie as tie

@@ -3,7 +3,7 @@ use mathlib.Core.Path.{_∙_}
 use native.Mathlib.Omega.{arith}
 use borrow.Author.Needs.{needs}
 use lib.ListN.{take}
-use Rattle.calls.proofs.Reading.{some-uncut}
+use Rattle.input.proofs.Reading.{some-uncut}
 use Rattle.calls.proofs.Written.{call-both}
 use Rattle.calls.proofs.read_call.Statement.{statement}
 use Rattle.calls.proofs.read_call.Tie as tie

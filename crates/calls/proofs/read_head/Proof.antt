@@ -1,9 +1,9 @@
 -- The byte, and then the numbers that its shape has. Assumes nothing.
 use mathlib.Core.Path.{_∙_, ap, sym}
 use borrow.Author.Needs.{needs}
-use Rattle.calls.proofs.Reading.{some-uncut}
+use Rattle.input.proofs.Reading.{some-uncut}
 use Rattle.calls.proofs.Written.{head-both}
-use Rattle.calls.specs.declared.input.Input.{Input}
+use Rattle.input.specs.declared.Input.{Input}
 use Rattle.calls.proofs.read_head.Statement.{statement}
 use Rattle.calls.proofs.read_head.Tie as tie
 

@@ -1,6 +1,6 @@
 -- The bytes that were fetched are the numbers. Assumes nothing.
 use borrow.Author.Needs.{needs}
-use Rattle.calls.proofs.Reading.{some-took}
+use Rattle.input.proofs.Reading.{some-took}
 use Rattle.calls.proofs.Written.{numbers-front}
 use Rattle.calls.proofs.read_numbers.Statement.{statement}
 use Rattle.calls.proofs.read_numbers.Tie as tie

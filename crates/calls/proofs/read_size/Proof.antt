@@ -1,7 +1,7 @@
 -- The four bytes that were fetched are the count. Assumes nothing.
 use native.Mathlib.Omega.{arith}
 use borrow.Author.Needs.{needs}
-use Rattle.calls.proofs.Reading.{some-cut, some-took}
+use Rattle.input.proofs.Reading.{some-cut, some-took}
 use Rattle.calls.proofs.Written.{count-front}
 use Rattle.calls.proofs.read_size.Statement.{statement}
 use Rattle.calls.proofs.read_size.Tie as tie

@@ -6,7 +6,6 @@ use mathlib.Core.Path.{_∙_, _≡_, ap, subst, sym}
 use Prim.Native.Nat.{ℕ}
 use native.Mathlib.Omega.{arith}
 use borrow.Author.Needs.{needs}
-use lib.ListN.{getD}
 use Rattle.sets.specs.Species.{Below}
 use Rattle.trees.proofs.Agreement.{R-proper}
 use Rattle.trees.specs.Check.{R, unsure}
@@ -17,8 +16,8 @@ use Rattle.tables.specs.Bytes.{entered}
 use Rattle.bodies.specs.Draws.{treeOf}
 use Rattle.groups.specs.Groups.{Candidate}
 use Rattle.masks.specs.Masks.{Masks}
-use Rattle.tables.specs.Finds.{Finds, Hit}
-use Rattle.tables.specs.declared.Found.{Found}
+use Rattle.triples.specs.Finds.{Finds, Hit}
+use Rattle.triples.specs.declared.Found.{Found}
 use Rattle.answers.proofs.Answered.{first-stop, then-nothing}
 use Rattle.answers.specs.Looks.{answered}
 use Rattle.answers.specs.declared.Look.{Look}
@@ -36,7 +35,7 @@ answer k = answered (λ (a : Answer). a) Refused k Passes
 -- once the groups are there
 module _ (c : tie.After-meets2) where
   abbrev st : tie.Start
-  st = c .before .before .before .before .before .before .before .before
+  st = c .before .before .before .before .before .before
 
   abbrev n : ℕ
   n = st .args .n
@@ -50,14 +49,8 @@ module _ (c : tie.After-meets2) where
   abbrev T : Tree
   T = treeOf body
 
-  abbrev groups : List ℕ
-  groups = c .before .before .before .before .groups2 .last .1 .0
-
-  abbrev meets : List ℕ
-  meets = c .before .pairs .last .1 .1 .0
-
-  meant : Candidate n T (getD groups 0 0) meets
-  meant = candidate n body (st .pre .0) (st .pre .1) (st .pre .2) groups meets (c .before .before .before .before .groups2 .ensures) (c .before .pairs .ensures)
+  meant : Candidate n T (c .before .draw .result) (c .before .draw .last .1 .1 .0)
+  meant = candidate n body (st .pre .0) (st .pre .1) (st .pre .2) (c .before .draw .ensures .1)
 
   well : So (wellFormed T)
   well = formed n body (st .pre .0) (st .pre .1) (st .pre .2)
@@ -90,21 +83,10 @@ module _ (c : tie.After-relate) where
   rp : Proper (R (entered (t (p q))) (T (p q)))
   rp = R-proper (entered (t (p q))) (entered-proper (t (p q))) (T (p q))
 
-groups-requires : tie.Need-groups-requires
-groups-requires c κs =
-    let s = c .before .before .before in
-    (good-64 (s .args .n) (s .args .body .now) (s .pre .0) (s .pre .1) (s .pre .2), (some-nodes (s .args .n) (s .args .body .now) (s .pre .0) (s .pre .1) (s .pre .2) .1, search needs))
-
-pairs-requires : tie.Need-pairs-requires
-pairs-requires c κs =
-    let g = c .before .before in
-    let s = g .before .before .before .before in (
-      good-64 (s .args .n) (s .args .body .now) (s .pre .0) (s .pre .1) (s .pre .2),
-      (g .groups2 .ensures, (some-nodes (s .args .n) (s .args .body .now) (s .pre .0) (s .pre .1) (s .pre .2), search needs)),
-    )
-
-array-read-whole : tie.Need-array-read-whole
-array-read-whole c = search needs
+draw-requires : tie.Need-draw-requires
+draw-requires c κs =
+    let s = c .before .before .before .before in
+    (good-64 (s .args .n) (s .args .body .now) (s .pre .0) (s .pre .1) (s .pre .2), (some-nodes (s .args .n) (s .args .body .now) (s .pre .0) (s .pre .1) (s .pre .2), search needs))
 
 look-pc-requires : tie.Need-look-pc-requires
 look-pc-requires c κs = (st c .pre .0, (T c, meant c))
@@ -122,7 +104,7 @@ earned-requires : tie.Need-earned-requires
 earned-requires c κs =
     let x = p (q (c .before .before)) in (
       good-64 (n x) (body x) (st x .pre .0) (st x .pre .1) (st x .pre .2),
-      (x .before .before .before .before .groups2 .ensures, some-nodes (n x) (body x) (st x .pre .0) (st x .pre .1) (st x .pre .2)),
+      (x .before .draw .ensures .0, some-nodes (n x) (body x) (st x .pre .0) (st x .pre .1) (st x .pre .2)),
     )
 
 returns : tie.Need-returns
@@ -190,9 +172,7 @@ pub judge-spec : {M : Type 1} → statement M
 judge-spec =
     tie.close
     (tie.spec
-    groups-requires
-    pairs-requires
-    array-read-whole
+    draw-requires
     look-pc-requires
     enum-known-look
     enum-told

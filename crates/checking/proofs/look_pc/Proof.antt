@@ -7,8 +7,8 @@ use borrow.Author.Needs.{needs}
 use Rattle.trees.specs.Check.{differs}
 use Rattle.trees.specs.Trees.{Tree}
 use Rattle.tables.specs.Bytes.{entered}
-use Rattle.tables.specs.Finds.{Finds, Hit}
-use Rattle.tables.specs.declared.Found.{Found}
+use Rattle.triples.specs.Finds.{Finds, Hit}
+use Rattle.triples.specs.declared.Found.{Found}
 use Rattle.groups.specs.Groups.{Candidate}
 use Rattle.checking.proofs.Judged.{is-agreed, is-contradicted}
 use Rattle.checking.proofs.look_pc.Statement.{statement}

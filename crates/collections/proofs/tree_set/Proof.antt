@@ -1,7 +1,7 @@
 -- The group of node 0 is what stands under the root. Assumes nothing.
 use borrow.Author.Needs.{needs}
 use mathlib.Core.Path.{refl}
-use Rattle.bodies.proofs.Rules.{length-good}
+use Rattle.bodies.proofs.Good.{length-good}
 use Rattle.collections.proofs.tree_set.Statement.{statement}
 use Rattle.collections.proofs.tree_set.Tie as tie
 

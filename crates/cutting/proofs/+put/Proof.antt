@@ -2,12 +2,11 @@
 -- of the loop takes a child off. Assumes nothing.
 use mathlib.Core.Logic.{⊎-elim}
 use mathlib.Core.Path.{_∙_, _≡_, ap, refl, sym}
-use Prim.Native.Nat.{ℕ, _<_, _≤_, _+_, _-_}
+use Prim.Native.Nat.{ℕ, _<_, _-_}
 use native.Mathlib.Omega.{arith}
 use borrow.Author.Needs.{needs}
 use borrow.Fn.Kinds.{In, Out}
 use borrow.Fn.PlainCycle.{Measures, is, falls, and}
-use lib.ListN.{length}
 use Rattle.sets.proofs.lowest.Reads as lowest-reads
 use Rattle.sets.proofs.meet.Reads as meet-reads
 use Rattle.sets.proofs.minus.Reads as minus-reads
@@ -88,7 +87,7 @@ module _ (k : ℕ) where
       let sp = c .before in
       let S = entry (sp .before) in
       ap decimal (sp .species .ensures)
-      ∙ leaf-text (nodes (S .args .body .now)) (S .pre .1 .0) (has (S .args .set)) (sp .before .descend .ensures) (S .pre .1 .1 .1 .1 .0) (λ z. c .if1 .taken (sp .species .ensures ∙ z))
+      ∙ leaf-text (nodes (S .args .body .now)) (S .pre .1 .0) (has (S .args .set)) (sp .before .descend .ensures) (S .pre .1 .1 .1 .1) (λ z. c .if1 .taken (sp .species .ensures ∙ z))
 
   -- the child that was found is the next one
   next-child : (c : At put-lts.After-child-with k) → Next (c .before .before .before .loop .inv) (c .child-with .result)
@@ -121,30 +120,14 @@ module _ (k : ℕ) where
       let l = x .before .before .before in
       c .minus .ensures ∙ ap (minus (l .loop .rest)) (entry (down l) .pre .1 .1 .0 .group (x .child-with .result) (next-child x .within))
 
-  -- the text of the node gone down to fits into the room
-  room : (l : At put-lts.At-loop k) → entry (down l) .args .at + length (textAt (nodes (entry (down l) .args .body .now)) (has (entry (down l) .args .set)) (down l .descend .result))
-      ≤ length (entry (down l) .args .out .now)
-  room l =
-      let S = entry (down l) in
-      omega (arith, S .pre .1 .1 .1 .1 .1, ap length (same-text (nodes (S .args .body .now)) (S .pre .1 .0) (has (S .args .set)) (down l .descend .ensures) (S .pre .1 .1 .1 .1 .0)))
-
   descend-requires : At put-lts.Need-descend-requires k
   descend-requires c κs = let S = c .before .before in (S .pre .1 .0, (S .pre .1 .1 .0, S .pre .1 .1 .1 .0))
 
   species-requires : At put-lts.Need-species-requires k
   species-requires c κs = c .descend .ensures .within
 
-  cast-put-decimal : At put-lts.Need-cast-put-decimal k
-  cast-put-decimal c = search needs
-
-  put-decimal-requires : At put-lts.Need-put-decimal-requires k
-  put-decimal-requires c κs = omega (arith, entry (c .before .before .before) .pre .1 .1 .1 .1 .1, ap length (leaf-told (c .before)))
-
-  same-length : At put-lts.Need-same-length k
-  same-length c = search needs
-
   returns : At put-lts.Need-returns k
-  returns c = let d = c .before .before in writes-as _ _ _ _ _ _ (leaf-told (d .before .before)) (d .put-decimal .ensures)
+  returns c = let d = c .before .before in writes-as (leaf-told (d .before .before)) (d .put-decimal .ensures)
 
   mul-rest : At put-lts.Need-mul-rest k
   mul-rest c = omega (arith, c .before .before .descend .ensures .within, entry (c .before .before) .pre .1 .1 .1 .0)
@@ -156,11 +139,8 @@ module _ (k : ℕ) where
   loop-holds c =
       let sp = c .before .before in
       let S = entry (sp .before) in
-      todo-start (nodes (S .args .body .now)) (S .pre .1 .0) (has (S .args .set)) (sp .before .descend .ensures) (S .pre .1 .1 .1 .1 .0) (S .args .groups .now) (S .pre .1 .1 .0)
-      (sym (sp .species .ensures) ∙ c .before .if1 .left) (S .args .at) (S .args .out .now) (omega (arith, S .pre .1 .1 .1 .1 .1)) _ refl
-
-  lowest-requires : At put-lts.Need-lowest-requires k
-  lowest-requires c κs = search needs
+      todo-start (nodes (S .args .body .now)) (S .pre .1 .0) (has (S .args .set)) (sp .before .descend .ensures) (S .pre .1 .1 .1 .1) (S .args .groups .now) (S .pre .1 .1 .0)
+      (sym (sp .species .ensures) ∙ c .before .if1 .left) (S .args .at) (S .args .out .now) _ refl
 
   child-with-requires : At put-lts.Need-child-with-requires k
   child-with-requires c κs = (entry (down (c .before .before)) .pre .1 .1 .1 .0 .1, c .lowest .ensures .small (c .before .loop-test .taken))
@@ -170,16 +150,6 @@ module _ (k : ℕ) where
 
   element-copy-out-meet : At put-lts.Need-element-copy-out-meet k
   element-copy-out-meet c = child-few c
-
-  meet-requires : At put-lts.Need-meet-requires k
-  meet-requires c κs = search needs
-
-  put-requires : At put-lts.Need-put-requires k
-  put-requires c κs =
-      let t = c .before in
-      let x = t .before .before .before in
-      let l = x .before .before .before in
-      omega (arith, next-child x .touched (child-touched t) .fits, room l, l .loop .inv .wrote .kept)
 
   put-requires-2 : At put-lts.Need-put-requires-2 k
   put-requires-2 c κs =
@@ -196,7 +166,7 @@ module _ (k : ℕ) where
             S .pre .1 .1 .0,
             (
               (n .within, S .pre .1 .1 .1 .0 .1),
-              (child-touched t, omega (arith, n .touched (child-touched t) .fits, p .put .ensures .next, p .put .ensures .kept, room l, l .loop .inv .wrote .kept)),
+              child-touched t,
             ),
           ),
         ),
@@ -207,9 +177,6 @@ module _ (k : ℕ) where
 
   element-copy-out-minus : At put-lts.Need-element-copy-out-minus k
   element-copy-out-minus c = child-few (c .before .before .before)
-
-  minus-requires : At put-lts.Need-minus-requires k
-  minus-requires c κs = search needs
 
   loop-less : At put-lts.Need-loop-less k
   loop-less c =
@@ -224,16 +191,10 @@ module _ (k : ℕ) where
       let S = entry (down l) in
       let n = next-child x in
       ⊎-elim
-      (λ w. todo-as (w .9) (w .10) (w .11) (n .touched (child-touched (record { before = c .before .before .before; if2 = w .0 })) .again _ _ _ _ _ (w .2 .ensures) (w .6 .ensures) (off c)))
+      (λ w. todo-as (w .9) (w .10) (w .11) (n .touched (child-touched (record { before = c .before .before .before; if2 = w .0 })) _ _ _ _ _ (w .2 .ensures) (w .6 .ensures) (off c)))
       (λ w. todo-as (w .1) (w .2) (w .3) (n .passed (meet-empty (subtree (nodes (S .args .body .now)) (x .child-with .result))
       (subtree-below 64 (nodes (S .args .body .now)) (S .pre .1 .0) (x .child-with .result) (n .within)) _ (S .pre .1 .1 .0 .group (x .child-with .result) (n .within)) (S .args .set) (sym (c .before .before .before .meet .ensures) ∙ w .0 .left)) _ (off c)))
       (c .before .before .if2 .came)
-
-  put-requires-3 : At put-lts.Need-put-requires-3 k
-  put-requires-3 c κs =
-      let l = c .before .before in
-      let S = entry (down l) in
-      omega (arith, todo-end (nodes (S .args .body .now)) (S .pre .1 .0) (has (S .args .set)) (l .loop .inv) (c .before .loop-test .left) .0, room l, l .loop .inv .wrote .kept)
 
   same-length-2 : At put-lts.Need-same-length-2 k
   same-length-2 c =
@@ -247,8 +208,8 @@ module _ (k : ℕ) where
       let l = a .before in
       let S = entry (down l) in
       let v = nodes (S .args .body .now) in
-      writes-as _ _ _ _ _ _ (same-text v (S .pre .1 .0) (has (S .args .set)) (down l .descend .ensures) (S .pre .1 .1 .1 .1 .0))
-      (todo-end v (S .pre .1 .0) (has (S .args .set)) (l .loop .inv) (a .loop-test .left) .1 _ _ (p .put3 .ensures))
+      writes-as (same-text v (S .pre .1 .0) (has (S .args .set)) (down l .descend .ensures) (S .pre .1 .1 .1 .1))
+      (todo-end v (S .pre .1 .0) (has (S .args .set)) (l .loop .inv) (a .loop-test .left) _ _ (p .put3 .ensures))
 
 pub +put-spec : {M : Type 1} → statement M
 +put-spec = close μ-put λ t. put-lts.spec (calls t)
@@ -258,25 +219,25 @@ pub +put-spec : {M : Type 1} → statement M
     put-μ-loop
     (descend-requires t)
     (species-requires t)
-    (cast-put-decimal t)
-    (put-decimal-requires t)
-    (same-length t)
+    (λ c. search needs)
+    (λ c κs. search needs)
+    (λ c. search needs)
     (returns t)
     (mul-rest t)
     (element-copy-out-rest t)
     (loop-holds t)
-    (lowest-requires t)
+    (λ c κs. search needs)
     (child-with-requires t)
     (mul-meet t)
     (element-copy-out-meet t)
-    (meet-requires t)
-    (put-requires t)
+    (λ c κs. search needs)
+    (λ c κs. search needs)
     (put-requires-2 t)
     (mul-minus t)
     (element-copy-out-minus t)
-    (minus-requires t)
+    (λ c κs. search needs)
     (loop-less t)
     (loop-again t)
-    (put-requires-3 t)
+    (λ c κs. search needs)
     (same-length-2 t)
     (returns-2 t)

@@ -10,7 +10,8 @@ use Rattle.answers.proofs.Good.{count-pass}
 use Rattle.answers.specs.Looks.{lookCount}
 use Rattle.answers.specs.declared.Look.the-variants.{Pass}
 use Rattle.tables.specs.Bytes.{wrongLength}
-use Rattle.entering.specs.Enters.{decided, occursIn}
+use Rattle.records.specs.Records.{occursIn}
+use Rattle.entering.specs.Enters.{decided}
 use Rattle.entering.specs.Passes.{cleared}
 use Rattle.entering.proofs.decide.Statement.{statement}
 use Rattle.entering.proofs.decide.Tie as tie

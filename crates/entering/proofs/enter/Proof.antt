@@ -1,4 +1,4 @@
--- `entering::enter` meets its contract: what `decide` and `fill` say, put together. Assumes nothing.
+-- `entering::enter` meets its contract: what `decide` and `records::fill` say, put together. Assumes nothing.
 use mathlib.Core.List.{List}
 use mathlib.Core.Path.{_∙_, _≡_, ap, refl, sym}
 use Prim.Native.Nat.{ℕ}

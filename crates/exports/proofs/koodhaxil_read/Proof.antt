@@ -5,18 +5,6 @@ use Rattle.laying.proofs.Laying.{handed}
 use Rattle.exports.proofs.koodhaxil_read.Statement.{statement}
 use Rattle.exports.proofs.koodhaxil_read.Tie as tie
 
-read-requires : tie.Need-read-requires
-read-requires c κs = search needs
-
-read-requires-2 : tie.Need-read-requires-2
-read-requires-2 c κs = search needs
-
-lay-requires : tie.Need-lay-requires
-lay-requires c κs = search needs
-
-same-length : tie.Need-same-length
-same-length c = search needs
-
 returns : tie.Need-returns
 returns c =
     let h = c .before .before in
@@ -24,5 +12,5 @@ returns c =
     handed readTold _ (s .read2 .ensures) (s .before .read .ensures) (h .lay .ensures)
 
 pub koodhaxil-read-spec : {M : Type 1} → statement M
-koodhaxil-read-spec =
-    tie.close (tie.spec read-requires read-requires-2 lay-requires same-length returns)
+koodhaxil-read-spec = tie.close (tie.spec
+    (λ c κs. search needs) (λ c κs. search needs) (λ c κs. search needs) (λ c. search needs) returns)

@@ -2,32 +2,11 @@
 use mathlib.Core.List.{[], _∷_}
 use mathlib.Core.Path.{_∙_, refl, sym}
 use borrow.Author.Needs.{needs}
-use Rattle.tables.specs.declared.Named.the-variants.{Known, Beyond}
+use Rattle.triples.specs.declared.Named.the-variants.{Known, Beyond}
 use Rattle.laying.proofs.Laying.{then-laid}
 use Rattle.exports.proofs.Asked.{triple-laid}
 use Rattle.exports.proofs.koodhaxil_triple.Statement.{statement}
 use Rattle.exports.proofs.koodhaxil_triple.Tie as tie
-
-triple-at-requires : tie.Need-triple-at-requires
-triple-at-requires c κs = search needs
-
-enum-known-t : tie.Need-enum-known-t
-enum-known-t c = search needs
-
-put-requires : tie.Need-put-requires
-put-requires c κs = search needs
-
-put-requires-2 : tie.Need-put-requires-2
-put-requires-2 c κs = search needs
-
-put-requires-3 : tie.Need-put-requires-3
-put-requires-3 c κs = search needs
-
-enum-told : tie.Need-enum-told
-enum-told c = search needs
-
-same-length : tie.Need-same-length
-same-length c = search needs
 
 returns : tie.Need-returns
 returns c =
@@ -47,15 +26,6 @@ returns-2 : tie.Need-returns-2
 returns-2 c = let a = c .before .before in triple-laid Beyond (a .before .before .args .values .now) (sym (a .triple-at .ensures) ∙ c .enum-told .given .1) refl
 
 pub koodhaxil-triple-spec : {M : Type 1} → statement M
-koodhaxil-triple-spec =
-    tie.close
-    (tie.spec
-    triple-at-requires
-    enum-known-t
-    put-requires
-    put-requires-2
-    put-requires-3
-    enum-told
-    same-length
-    returns
-    returns-2)
+koodhaxil-triple-spec = tie.close (tie.spec
+    (λ c κs. search needs) (λ c. search needs) (λ c κs. search needs) (λ c κs. search needs)
+    (λ c κs. search needs) (λ c. search needs) (λ c. search needs) returns returns-2)

@@ -1,20 +1,20 @@
 -- The loop goes over the list of the parts, with the invariants `Going` and `Counting`, and each part is read from its place among those that wait; a part has fewer species than its set. Assumes nothing.
 mod Places
 use mathlib.Core.Bool.{false, true}
-use mathlib.Core.List.{[], _∷_}
 use mathlib.Core.Path.{_∙_, _≡_, ap, refl, subst, sym}
 use Prim.Native.Nat.{_*_, _+_, _≤_, ℕ}
 use native.Mathlib.Omega.{arith}
 use borrow.Author.Needs.{needs}
 use lib.ListN.{length}
 use lib.Seq.{sets}
+use Rattle.sets.proofs.Sizes.{not-empty}
 use Rattle.sets.specs.Sets.{has, lowest, size}
 use Rattle.tables.proofs.Bytes.{entered-proper}
 use Rattle.tables.specs.Bytes.{entered}
 use Rattle.trees.specs.Build.{Outcome, buildBy}
 use Rattle.growing.specs.Grows.{Stands}
 use Rattle.growing.proofs.Finish.{kept, leaf-wrote}
-use Rattle.growing.proofs.Numbered.{leaf-looked, leaf-rule, not-empty}
+use Rattle.growing.proofs.Numbered.{leaf-looked, leaf-rule}
 use Rattle.growing.proofs.Waiting.{lined-above}
 use Rattle.growing.proofs.Steps.{Counting, counting-end, counting-start, counting-step, counting-stop, going-end, going-start, going-step, going-stop, next-part, part-beside, part-room}
 use Rattle.growing.proofs.+grow.Proof.Places.{μ-grow, grow-at, calls, grow-Inv-loop, grow-μ-loop, At, begun, splits, list, places, parted, line, moved, inside, in-list, going, entry, one, several, joins, own, front, turned, grown, looks, few, left}
@@ -22,7 +22,7 @@ use Rattle.growing.proofs.grow.Reads as grow
 use Rattle.growing.proofs.+grow.Lts-grow as grow-lts
 use Rattle.growing.proofs.+grow.{statement}
 use Rattle.bodies.specs.Draws.{bytes}
-use Rattle.bodies.specs.Nodes.{width, none, longest}
+use Rattle.bodies.specs.Nodes.{innerBytes, leafBytes, longest, width}
 use Rattle.growing.proofs.+grow.Tie.{close}
 
 module _ (k : ℕ) where
@@ -32,13 +32,13 @@ module _ (k : ℕ) where
   lowest-requires : At grow-lts.Need-lowest-requires k
   lowest-requires c κs = search needs
 
-  cast-put-node : At grow-lts.Need-cast-put-node k
-  cast-put-node c =
+  cast-put-leaf : At grow-lts.Need-cast-put-leaf k
+  cast-put-leaf c =
       let st = c .before .before .before .before .before .before in
       omega (arith, c .lowest .ensures .small (not-empty (st .args .s) (st .pre .1 .0)))
 
-  put-node-requires : At grow-lts.Need-put-node-requires k
-  put-node-requires c κs = search needs
+  put-leaf-requires : At grow-lts.Need-put-leaf-requires k
+  put-leaf-requires c κs = search needs
 
   add-t26 : At grow-lts.Need-add-t26 k
   add-t26 c = search needs
@@ -52,12 +52,12 @@ module _ (k : ℕ) where
       let z = l .before .before in
       let st = z .before .before .before .before in
       let a = st .args in
-      let o = c .before .before .put-node in
+      let o = c .before .before .put-leaf in
       let one : size (a .s) ≡ 1 = sym (z .before .size .ensures) ∙ z .if1 .taken in
-      let e = o .ensures ∙ ap (λ (x : ℕ). sets (a .room .now) (width * a .at) (a .parent ∷ x ∷ [])) (l .lowest .ensures .is) in (
+      let e = o .ensures ∙ ap (λ (x : ℕ). sets (a .room .now) (width * a .at) (leafBytes (a .parent) x)) (l .lowest .ensures .is) in (
         record { long = st .pre .1 .3; same = refl },
         (
-          kept (a .room .now) (o .last .0) (a .parent ∷ lowest (a .s) ∷ []) (width * a .at) longest e (st .pre .1 .5),
+          kept (a .room .now) (o .last .0) (leafBytes (a .parent) (lowest (a .s))) (width * a .at) longest e (st .pre .1 .5),
           (
             leaf-wrote (buildBy (a .veto) (entered (a .t .now)) 64 (has (a .s))) (size (a .s)) (a .parent) (a .at) (lowest (a .s)) (a .room .now) (o .last .0)
                 (leaf-rule (entered (a .t .now)) (entered-proper (a .t .now)) (a .s) (st .fits .s .fits) (st .pre .1 .0) (a .veto) one) one e,
@@ -99,8 +99,8 @@ module _ (k : ℕ) where
   returns-3 : At grow-lts.Need-returns-3 k
   returns-3 c = let y = c .before in (front y, (entry y .pre .1 .5, (joins y false (c .if3 .left), own y)))
 
-  put-node-requires-2 : At grow-lts.Need-put-node-requires-2 k
-  put-node-requires-2 c κs = search needs
+  put-inner-requires : At grow-lts.Need-put-inner-requires k
+  put-inner-requires c κs = search needs
 
   sub-gap : At grow-lts.Need-sub-gap k
   sub-gap c = places (c .before .before .before .before)
@@ -116,12 +116,12 @@ module _ (k : ℕ) where
 
   loop-holds : At grow-lts.Need-loop-holds k
   loop-holds c =
-      let o = c .before .before .before .before .put-node2 in
+      let o = c .before .before .before .before .put-inner in
       let x = parted c in
       let st = begun x in
       let a = st .args in (
         going-start (a .veto) (entered (a .t .now)) (a .s) (splits x) (a .at) (o .last .0)
-            (kept (a .room .now) (o .last .0) (a .parent ∷ none ∷ []) (width * a .at) longest (o .ensures) (st .pre .1 .5)),
+            (kept (a .room .now) (o .last .0) (innerBytes (a .parent)) (width * a .at) longest (o .ensures) (st .pre .1 .5)),
         record { long = line c .long; same = refl },
         counting-start (a .veto) (entered (a .t .now)) (a .s) (splits x) (x .before .split .result .looked) (x .before .split .ensures .1 .1),
       )
@@ -218,7 +218,7 @@ module _ (k : ℕ) where
   returns-5 c =
       let l = c .before .loop in
       let m = c .before .before in
-      let o = m .before .before .before .before .put-node2 in
+      let o = m .before .before .before .before .put-inner in
       let x = parted m in
       let st = begun x in
       let a = st .args in
@@ -241,8 +241,8 @@ pub +grow-spec : {M : Type 1} → statement M
     grow-μ-loop
     (size-requires t)
     (lowest-requires t)
-    (cast-put-node t)
-    (put-node-requires t)
+    (cast-put-leaf t)
+    (put-leaf-requires t)
     (add-t26 t)
     (same-length t)
     (returns t)
@@ -251,7 +251,7 @@ pub +grow-spec : {M : Type 1} → statement M
     (same-length-2 t)
     (returns-2 t)
     (returns-3 t)
-    (put-node-requires-2 t)
+    (put-inner-requires t)
     (sub-gap t)
     (lift-requires t)
     (add-next t)

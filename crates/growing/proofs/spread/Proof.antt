@@ -1,12 +1,11 @@
 -- The loop goes over the species of the set, from the lowest up, with the invariant `Spreading`. Assumes nothing.
-use mathlib.Core.List.{[], _∷_}
 use mathlib.Core.Logic.{_≢_}
 use Prim.Native.Nat.{_*_}
 use native.Mathlib.Omega.{arith}
 use borrow.Author.Needs.{needs}
 use Rattle.sets.proofs.Sizes.{size-zero}
 use Rattle.sets.specs.Sets.{size}
-use Rattle.bodies.specs.Nodes.{longest, none, width}
+use Rattle.bodies.specs.Nodes.{innerBytes, longest, width}
 use Rattle.growing.proofs.Finish.{kept}
 use Rattle.growing.proofs.Leaves.{Spreading, spread-end, spread-start, spread-step}
 use Rattle.growing.proofs.spread.Statement.{statement}
@@ -18,30 +17,30 @@ Inv-loop s room₀ at parent next₀ left₀ room next left = Spreading s at roo
 abbrev μ-loop : tie.MeasureT-loop
 μ-loop s room₀ at parent next₀ left₀ room next left = size left
 
-put-node-requires : tie.Need-put-node-requires Inv-loop μ-loop
-put-node-requires c κs = search needs
+put-inner-requires : tie.Need-put-inner-requires Inv-loop μ-loop
+put-inner-requires c κs = search needs
 
 add-next : tie.Need-add-next Inv-loop μ-loop
 add-next c = search needs
 
 loop-holds : tie.Need-loop-holds Inv-loop μ-loop
 loop-holds c =
-    let p = c .before .before .put-node in
+    let p = c .before .before .put-inner in
     let st = c .before .before .before .before .before in
     let a = st .args in
-    spread-start (a .s) (a .at) (p .last .0) (st .fits .s .fits) (kept (a .room .now) (p .last .0) (a .parent ∷ none ∷ []) (width * a .at) longest (p .ensures) (st .pre .2))
+    spread-start (a .s) (a .at) (p .last .0) (st .fits .s .fits) (kept (a .room .now) (p .last .0) (innerBytes (a .parent)) (width * a .at) longest (p .ensures) (st .pre .2))
 
-cast-put-node : tie.Need-cast-put-node Inv-loop μ-loop
-cast-put-node c = search needs
+cast-put-leaf : tie.Need-cast-put-leaf Inv-loop μ-loop
+cast-put-leaf c = search needs
 
 lowest-requires : tie.Need-lowest-requires Inv-loop μ-loop
 lowest-requires c κs = search needs
 
-cast-put-node-2 : tie.Need-cast-put-node-2 Inv-loop μ-loop
-cast-put-node-2 c = omega (arith, c .lowest .ensures .small (c .before .before .loop-test .taken))
+cast-put-leaf-2 : tie.Need-cast-put-leaf-2 Inv-loop μ-loop
+cast-put-leaf-2 c = omega (arith, c .lowest .ensures .small (c .before .before .loop-test .taken))
 
-put-node-requires-2 : tie.Need-put-node-requires-2 Inv-loop μ-loop
-put-node-requires-2 c κs =
+put-leaf-requires : tie.Need-put-leaf-requires Inv-loop μ-loop
+put-leaf-requires c κs =
     let i = c .before .before in
     let l = i .before .loop in
     let pre = i .before .before .before .before .before .before .before .pre in
@@ -64,7 +63,7 @@ loop-again c =
     let i = w .before .before in
     let l = i .before .loop in
     let a = i .before .before .before .before .before .before .before .args in
-    spread-step (a .s) (a .at) _ (l .left) (w .lowest .result) (c .rest .result) (l .next) (l .room) (o .put-node2 .last .0) (i .loop-test .taken) (l .inv) (w .lowest .ensures) (o .put-node2 .ensures)
+    spread-step (a .s) (a .at) _ (l .left) (w .lowest .result) (c .rest .result) (l .next) (l .room) (o .put-leaf .last .0) (i .loop-test .taken) (l .inv) (w .lowest .ensures) (o .put-leaf .ensures)
     (c .rest .ok) (c .rest .ensures)
 
 same-length : tie.Need-same-length Inv-loop μ-loop
@@ -75,7 +74,7 @@ returns c =
     let l = c .before .loop in
     let st = c .before .before .before .before .before .before .before in
     let a = st .args in
-    let p = c .before .before .before .before .put-node in
+    let p = c .before .before .before .before .put-inner in
     spread-end (a .s) (a .at) (p .last .0) (l .left) (a .parent) (l .next) (a .room .now) (l .room) (c .loop-test .left) (st .pre .0) (l .inv) (p .ensures)
 
 pub spread-spec : {M : Type 1} → statement M
@@ -84,13 +83,13 @@ spread-spec =
     (tie.spec
     Inv-loop
     μ-loop
-    put-node-requires
+    put-inner-requires
     add-next
     loop-holds
-    cast-put-node
+    cast-put-leaf
     lowest-requires
-    cast-put-node-2
-    put-node-requires-2
+    cast-put-leaf-2
+    put-leaf-requires
     add-next-2
     rest-requires
     loop-less

@@ -11,48 +11,15 @@ use Rattle.items.specs.Items.{recordsOf}
 use Rattle.items.proofs.enter_line.Statement.{statement}
 use Rattle.items.proofs.enter_line.Tie as tie
 
-gather-requires : tie.Need-gather-requires
-gather-requires c κs = search needs
-
-sub-enter-line : tie.Need-sub-enter-line
-sub-enter-line c = search needs
-
-part-enter-line-start : tie.Need-part-enter-line-start
-part-enter-line-start c = search needs
-
-part-enter-line-end : tie.Need-part-enter-line-end
-part-enter-line-end c = search needs
-
-enter-line-requires : tie.Need-enter-line-requires
-enter-line-requires c κs = search needs
-
-same-length : tie.Need-same-length
-same-length c = search needs
-
-same-length-2 : tie.Need-same-length-2
-same-length-2 c = search needs
-
-same-length-3 : tie.Need-same-length-3
-same-length-3 c = search needs
-
 returns : tie.Need-returns
 returns c =
     let s = c .before .before .before .before .before .before .before .before .before .before .before .before .before .before .before in
     let l = c .before .before .before .before in
     let g = c .before .before .before .before .before .before .before .before .before .before .gather in
     let e : take (g .result - 0) (g .last .1 .0) ≡ recordsOf (s .args .b .now) = (let m : g .result - 0 ≡ g .result = omega arith in rw m (g .ensures .1)) in
-    writes-as _ _ _ _ _ _ (ap (λ (rs : List (List ℕ)). enterLine (s .args .n) rs (s .args .t .now)) e) (l .enter-line .ensures .0)
+    writes-as (ap (λ (rs : List (List ℕ)). enterLine (s .args .n) rs (s .args .t .now)) e) (l .enter-line .ensures .0)
 
 pub enter-line-spec : {M : Type 1} → statement M
-enter-line-spec =
-    tie.close
-    (tie.spec
-    gather-requires
-    sub-enter-line
-    part-enter-line-start
-    part-enter-line-end
-    enter-line-requires
-    same-length
-    same-length-2
-    same-length-3
-    returns)
+enter-line-spec = tie.close (tie.spec
+    (λ c κs. search needs) (λ c. search needs) (λ c. search needs) (λ c. search needs) (λ c κs. search needs)
+    (λ c. search needs) (λ c. search needs) (λ c. search needs) returns)

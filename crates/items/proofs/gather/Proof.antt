@@ -19,30 +19,12 @@ loop-holds : tie.Need-loop-holds Inv-loop μ-loop
 unfolding itemsUpTo
 loop-holds c = (refl, omega arith, refl)
 
-record-requires : tie.Need-record-requires Inv-loop μ-loop
-record-requires c κs = search needs
-
-mul-r : tie.Need-mul-r Inv-loop μ-loop
-mul-r c = search needs
-
-slice-set-from-r : tie.Need-slice-set-from-r Inv-loop μ-loop
-slice-set-from-r c = search needs
-
-add-i : tie.Need-add-i Inv-loop μ-loop
-add-i c = search needs
-
-loop-less : tie.Need-loop-less Inv-loop μ-loop
-loop-less c = search needs
-
 loop-again : tie.Need-loop-again Inv-loop μ-loop
 loop-again c =
     let x = c .before .before in
     let v = x .loop .inv in
     let b = x .before .before .args .b .now in
     (simp length-set (v .0), omega arith, ap (λ r. take (x .loop .i + 1) (set (x .loop .records) (x .loop .i) r)) (c .«record» .ensures) ∙ items-more (recordAt b) (x .loop .records) (x .loop .i) (omega arith) (v .2))
-
-same-length : tie.Need-same-length Inv-loop μ-loop
-same-length c = search needs
 
 returns : tie.Need-returns Inv-loop μ-loop
 returns c =
@@ -51,17 +33,6 @@ returns c =
     (refl, rw e at (v .2))
 
 pub gather-spec : {M : Type 1} → statement M
-gather-spec =
-    tie.close
-    (tie.spec
-    Inv-loop
-    μ-loop
-    loop-holds
-    record-requires
-    mul-r
-    slice-set-from-r
-    add-i
-    loop-less
-    loop-again
-    same-length
-    returns)
+gather-spec = tie.close (tie.spec Inv-loop μ-loop loop-holds
+    (λ c κs. search needs) (λ c. search needs) (λ c. search needs) (λ c. search needs) (λ c. search needs)
+    loop-again (λ c. search needs) returns)

@@ -19,33 +19,12 @@ loop-holds : tie.Need-loop-holds Inv-loop μ-loop
 unfolding itemsUpTo
 loop-holds c = (refl, omega arith, refl)
 
-mul-eight : tie.Need-mul-eight Inv-loop μ-loop
-mul-eight c = search needs
-
-eight-requires : tie.Need-eight-requires Inv-loop μ-loop
-eight-requires c κs = search needs
-
-mul-list : tie.Need-mul-list Inv-loop μ-loop
-mul-list c = search needs
-
-slice-write-list : tie.Need-slice-write-list Inv-loop μ-loop
-slice-write-list c = search needs
-
-add-i : tie.Need-add-i Inv-loop μ-loop
-add-i c = search needs
-
-loop-less : tie.Need-loop-less Inv-loop μ-loop
-loop-less c = search needs
-
 loop-again : tie.Need-loop-again Inv-loop μ-loop
 loop-again c =
     let x = c .before .before in
     let v = x .loop .inv in
     let b = x .before .before .before .args .b .now in
     (simp length-set (v .0), omega arith, ap (λ r. take (x .loop .i + 1) (set (x .loop .list) (x .loop .i) r)) (c .eight .ensures) ∙ items-more (setAt b) (x .loop .list) (x .loop .i) (omega arith) (v .2))
-
-same-length : tie.Need-same-length Inv-loop μ-loop
-same-length c = search needs
 
 returns : tie.Need-returns Inv-loop μ-loop
 returns c =
@@ -54,18 +33,6 @@ returns c =
     (refl, rw e at (v .2))
 
 pub gather-sets-spec : {M : Type 1} → statement M
-gather-sets-spec =
-    tie.close
-    (tie.spec
-    Inv-loop
-    μ-loop
-    loop-holds
-    mul-eight
-    eight-requires
-    mul-list
-    slice-write-list
-    add-i
-    loop-less
-    loop-again
-    same-length
-    returns)
+gather-sets-spec = tie.close (tie.spec Inv-loop μ-loop loop-holds
+    (λ c. search needs) (λ c κs. search needs) (λ c. search needs) (λ c. search needs) (λ c. search needs) (λ c. search needs)
+    loop-again (λ c. search needs) returns)

@@ -11,30 +11,6 @@ use Rattle.items.specs.Items.{setsOf}
 use Rattle.items.proofs.loosen_line.Statement.{statement}
 use Rattle.items.proofs.loosen_line.Tie as tie
 
-gather-sets-requires : tie.Need-gather-sets-requires
-gather-sets-requires c κs = search needs
-
-sub-loosen-line : tie.Need-sub-loosen-line
-sub-loosen-line c = search needs
-
-part-loosen-line-start : tie.Need-part-loosen-line-start
-part-loosen-line-start c = search needs
-
-part-loosen-line-end : tie.Need-part-loosen-line-end
-part-loosen-line-end c = search needs
-
-loosen-line-requires : tie.Need-loosen-line-requires
-loosen-line-requires c κs = search needs
-
-same-length : tie.Need-same-length
-same-length c = search needs
-
-same-length-2 : tie.Need-same-length-2
-same-length-2 c = search needs
-
-same-length-3 : tie.Need-same-length-3
-same-length-3 c = search needs
-
 returns : tie.Need-returns
 returns c =
     let l = c .before .before .before .before .before .before in
@@ -42,18 +18,9 @@ returns c =
     let s = k .before .before .before .before .before .before .before .before in
     let g = k .gather-sets in
     let e : take (g .result - 0) (g .last .1 .0) ≡ setsOf (s .args .b .now) = (let m : g .result - 0 ≡ g .result = omega arith in rw m (g .ensures .1)) in
-    writes-as _ _ _ _ _ _ (ap (λ (d : List ℕ). loosenLine (s .args .n) (s .args .t .now) (s .args .body .now) (s .args .room .now) d) e) (l .loosen-line .ensures .0)
+    writes-as (ap (λ (d : List ℕ). loosenLine (s .args .n) (s .args .t .now) (s .args .body .now) (s .args .room .now) d) e) (l .loosen-line .ensures .0)
 
 pub loosen-line-spec : {M : Type 1} → statement M
-loosen-line-spec =
-    tie.close
-    (tie.spec
-    gather-sets-requires
-    sub-loosen-line
-    part-loosen-line-start
-    part-loosen-line-end
-    loosen-line-requires
-    same-length
-    same-length-2
-    same-length-3
-    returns)
+loosen-line-spec = tie.close (tie.spec
+    (λ c κs. search needs) (λ c. search needs) (λ c. search needs) (λ c. search needs) (λ c κs. search needs)
+    (λ c. search needs) (λ c. search needs) (λ c. search needs) returns)

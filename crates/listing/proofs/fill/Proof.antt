@@ -14,7 +14,7 @@ use Rattle.collections.specs.Layout.{bodyAt, species, trees}
 use Rattle.tables.proofs.Adding.{adds-table}
 use Rattle.tables.specs.Adds.{Adds}
 use Rattle.tables.specs.Filled.{byteFor}
-use Rattle.tables.specs.Index.{C}
+use Rattle.triples.specs.Index.{C}
 use Rattle.listing.proofs.Collected.{inside, part-good, said-next, said-none}
 use Rattle.listing.specs.Lists.{saidUpTo}
 use Rattle.listing.proofs.fill.Statement.{statement}

@@ -9,11 +9,11 @@ use borrow.Author.Tests.{eqb-true, not-false}
 use lib.Dec.{eqb}
 use lib.ListN.{length}
 use Rattle.tables.specs.Bytes.{wrongLength}
-use Rattle.tables.specs.Index.{C}
+use Rattle.triples.specs.Index.{C}
 use Rattle.answers.proofs.Answered.{first-on, first-stop, is-done, is-refused, then-nothing}
 use Rattle.answers.specs.Looks.{firstRefusal, lookTable, refuseIf}
 use Rattle.answers.specs.declared.Look.the-variants.{Pass}
-use Rattle.answers.specs.declared.Refusal.the-variants.{BadTable}
+use Rattle.refusals.specs.declared.Refusal.the-variants.{BadTable}
 use Rattle.collections.proofs.Whole.{read-done, read-pass, read-refused}
 use Rattle.collections.specs.Collection.{Collection}
 use Rattle.collections.specs.Layout.{species}

@@ -4,7 +4,7 @@ use mathlib.Core.Path.{_∙_, _≡_, refl, sym}
 use Prim.Native.Nat.{_<_, _≤_, ℕ}
 use borrow.Author.Needs.{needs}
 use borrow.Author.Tests.{le-ltb, lt-ltb}
-use lib.ListN.{drop, getD, length}
+use lib.ListN.{drop, length}
 use Rattle.trees.specs.Trees.{Tree}
 use Rattle.bodies.specs.Draws.{treeOf}
 use Rattle.bodies.specs.Nodes.{Good, mostNodes, nodes}
@@ -13,7 +13,7 @@ use Rattle.answers.proofs.Answered.{first-on, first-stop, is-done, is-refused, 
 use Rattle.answers.specs.Looks.{firstRefusal}
 use Rattle.answers.specs.declared.Look.{Look}
 use Rattle.answers.specs.declared.Look.the-variants.{Pass}
-use Rattle.answers.specs.declared.Refusal.the-variants.{ShortRoom}
+use Rattle.refusals.specs.declared.Refusal.the-variants.{ShortRoom}
 use Rattle.checking.proofs.Judged.{candidate, good-64, some-nodes}
 use Rattle.checking.specs.Checks.{lookPC}
 use Rattle.loosening.specs.Loosens.{lateLooks}
@@ -30,7 +30,7 @@ module _ (s : tie.Start) where
 -- once the groups are there
 module _ (c : tie.After-meets2) where
   abbrev st : tie.Start
-  st = c .before .before .before .before .before .before .before .before .before .before
+  st = c .before .before .before .before .before .before .before .before
 
   abbrev n : ℕ
   n = st .args .n
@@ -50,14 +50,8 @@ module _ (c : tie.After-meets2) where
   abbrev T : Tree
   T = treeOf body
 
-  abbrev pairs : tie.After-pairs
-  pairs = c .before
-
-  abbrev found : tie.After-groups2
-  found = pairs .before .before .before
-
-  meant : Candidate n T (getD (found .groups2 .last .1 .0) 0 0) (pairs .pairs .last .1 .1 .0)
-  meant = candidate n body (st .pre .0) (st .pre .1) (st .pre .2) _ _ (found .groups2 .ensures) (pairs .pairs .ensures)
+  meant : Candidate n T (c .before .draw .result) (c .before .draw .last .1 .1 .0)
+  meant = candidate n body (st .pre .0) (st .pre .1) (st .pre .2) (c .before .draw .ensures .1)
 
   -- 11; and 9, twice
   abbrev first : List Look
@@ -77,17 +71,8 @@ module _ (c : tie.After-enum-told) where
   passed : firstRefusal (first p) ≡ Pass
   passed = looked (c .before .before) ∙ c .enum-told .given .1
 
-groups-requires : tie.Need-groups-requires
-groups-requires c κs = let s = c .before .before .before .before .before in (good s, (some s .1, search needs))
-
-pairs-requires : tie.Need-pairs-requires
-pairs-requires c κs =
-    let g = c .before .before in
-    let s = g .before .before .before .before .before .before in
-    (good s, (g .groups2 .ensures, (some s, search needs)))
-
-array-read-look-pc : tie.Need-array-read-look-pc
-array-read-look-pc c = search needs
+draw-requires : tie.Need-draw-requires
+draw-requires c κs = let s = c .before .before .before .before .before .before in (good s, (some s, search needs))
 
 look-pc-requires : tie.Need-look-pc-requires
 look-pc-requires c κs = (st c .pre .0, (T c, meant c))
@@ -140,9 +125,7 @@ pub settle-spec : {M : Type 1} → statement M
 settle-spec =
     tie.close
     (tie.spec
-    groups-requires
-    pairs-requires
-    array-read-look-pc
+    draw-requires
     look-pc-requires
     enum-told
     enum-known-look

@@ -11,7 +11,7 @@ use Rattle.answers.proofs.Good.{body-pass, count-pass}
 use Rattle.answers.specs.Looks.{andThen, firstRefusal, lookCount, lookLength, lookRoom, lookRules}
 use Rattle.answers.specs.declared.Look.{Look}
 use Rattle.answers.specs.declared.Look.the-variants.{Pass}
-use Rattle.answers.specs.declared.Refusal.the-variants.{ShortRoom}
+use Rattle.refusals.specs.declared.Refusal.the-variants.{ShortRoom}
 use Rattle.children.proofs.Ready.{Ready, is-ready}
 use Rattle.ordering.proofs.order.Statement.{statement}
 use Rattle.ordering.proofs.order.Tie as tie

@@ -5,8 +5,8 @@ use mathlib.Core.Path.{_∙_, _≡_, refl, sym}
 use Prim.Native.Nat.{_-_, _≤_}
 use native.Mathlib.Omega.{arith}
 use borrow.Author.Needs.{needs}
-use Rattle.tables.proofs.Search.{Clear, clear-level, clear-next, clear-row, clear-start, finds-at, finds-nowhere}
-use Rattle.tables.specs.Index.{index}
+use Rattle.triples.proofs.Search.{Clear, clear-level, clear-next, clear-row, clear-start, finds-at, finds-nowhere}
+use Rattle.triples.specs.Index.{index}
 use Rattle.outside.specs.Reaches.{reaches}
 use Rattle.outside.proofs.Reaching.{reaches-any}
 use Rattle.outside.proofs.first_outside.Statement.{statement}

@@ -6,13 +6,13 @@ use native.Mathlib.Omega.{arith}
 use borrow.Author.Needs.{needs}
 use lib.ListN.{drop, length, length-set, set, take}
 use lib.Seq.{length-sets, sets}
-use Rattle.bodies.proofs.Rules.{length-good}
+use Rattle.bodies.proofs.Good.{length-good}
 use Rattle.bodies.specs.Nodes.{mostNodes}
 use Rattle.bodies.specs.Nodes as N
 use Rattle.answers.specs.Inputs.{Body}
 use Rattle.parsing.specs.Parses.{textBody}
 use Rattle.parsing.specs.declared.Answer.the-variants.{Done}
-use Rattle.papers.specs.Bound.{topOf}
+use Rattle.highest.specs.Bound.{topOf}
 use Rattle.papers.specs.Bundled.{withLength}
 use Rattle.papers.specs.Reads.{textAnswer}
 use Rattle.papers.specs.declared.Next.the-variants.{At}

@@ -7,7 +7,7 @@ use native.Mathlib.Omega.{arith}
 use borrow.Author.Needs.{needs}
 use lib.ListN.{drop, length, length-set, set, take}
 use Rattle.papers.specs.OneText.{Laid, nextOf}
-use Rattle.papers.specs.Texts.{allBlank}
+use Rattle.texts.specs.Texts.{allBlank}
 use Rattle.papers.specs.declared.Next.{Next}
 use Rattle.papers.proofs.Turns.{SoFar, so-far-none, turn-bad, turn-done, turn-held, turn-less, turn-long, turn-many, turn-next, turn-none}
 use Rattle.papers.proofs.read.Statement.{statement}

@@ -1,6 +1,6 @@
 -- What was written are the lines of the first k papers. Assumes nothing.
 use mathlib.Core.Path.{_≡_, ap}
-use Prim.Native.Nat.{_+_, _*_, _-_, _<_, _≤_}
+use Prim.Native.Nat.{_-_, _<_, _≤_}
 use native.Mathlib.Omega.{arith}
 use borrow.Author.Needs.{needs}
 use Rattle.collections.specs.Layout.{trees}
@@ -13,7 +13,7 @@ use Rattle.papers_text.proofs.put_papers.Statement.{statement}
 use Rattle.papers_text.proofs.put_papers.Tie as tie
 
 abbrev Inv-loop : tie.InvT-loop
-Inv-loop out₀ at n c count next₀ k₀ t12 out next k = (k ≤ count) × (next ≤ at + 319 * k) × Writes out₀ at (papersText c k) out next
+Inv-loop out₀ at n c count next₀ k₀ t12 out next k = (k ≤ count) × Writes out₀ at (papersText c k) out next
 
 abbrev μ-loop : tie.MeasureT-loop
 μ-loop out₀ at n c count next₀ k₀ t12 out next k = count - k
@@ -23,27 +23,20 @@ begun x = x .before .before .before
 
 -- the paper of this turn is one of the collection's
 one-of : (n : tie.In-loop Inv-loop μ-loop) → n .before .loop .k < trees (begun (n .before) .args .c .now)
-one-of n = omega (arith, n .loop-test .taken, begun (n .before) .pre .1 .2)
-
-loop-holds : tie.Need-loop-holds Inv-loop μ-loop
-loop-holds c = let s = c .before .before in (omega arith, omega arith, papers-none _ _ (s .args .at) (omega (arith, s .pre .0)))
+one-of n = omega (arith, n .loop-test .taken, begun (n .before) .pre .2)
 
 body-span-requires : tie.Need-body-span-requires Inv-loop μ-loop
-body-span-requires c κs = let s = begun (c .before) in inside (s .args .c .now) (s .pre .1 .0) (c .before .loop .k) (one-of c)
+body-span-requires c κs = let s = begun (c .before) in inside (s .args .c .now) (s .pre .0) (c .before .loop .k) (one-of c)
 
 -- where the body of this turn stands
 body : (b : tie.After-body-span Inv-loop μ-loop) → Found (begun (b .before .before) .args .c .now) (b .before .before .loop .k) (b .body-span .result .start) (b .body-span .result .end)
-body b = let s = begun (b .before .before) in found (s .args .c .now) (s .pre .1 .0) _ (one-of (b .before)) _ _ (b .body-span .ensures .0) (b .body-span .ensures .1)
+body b = let s = begun (b .before .before) in found (s .args .c .now) (s .pre .0) _ (one-of (b .before)) _ _ (b .body-span .ensures .0) (b .body-span .ensures .1)
 
 put-number-requires : tie.Need-put-number-requires Inv-loop μ-loop
 put-number-requires c κs =
     let n = c .before .before in
-    let x = n .before in
-    let s = begun x in
-    (omega (arith, n .loop-test .taken, x .loop .inv .1, x .loop .inv .2 .kept, s .pre .0), one-of-16 (s .args .c .now) (s .pre .1 .0) (x .loop .k) (one-of n))
-
-slice-aggregate-put-tree : tie.Need-slice-aggregate-put-tree Inv-loop μ-loop
-slice-aggregate-put-tree c = search needs
+    let s = begun (n .before) in
+    one-of-16 (s .args .c .now) (s .pre .0) (n .before .loop .k) (one-of n)
 
 sub-put-tree : tie.Need-sub-put-tree Inv-loop μ-loop
 sub-put-tree c = body (c .before .before .before .before .before .before) .ordered
@@ -61,14 +54,7 @@ put-tree-requires c κs =
     let n = b .before in
     let x = n .before in
     let s = begun x in
-    let g = body-good (s .args .c .now) (s .pre .1 .0) _ (one-of n) _ (body b .is) (s .args .n) (s .pre .1 .1) in
-    (omega (arith, n .loop-test .taken, x .loop .inv .1, x .loop .inv .2 .kept, p .put-number .ensures .0 .kept, p .put-number .ensures .1, s .pre .0), (g .0, g .1))
-
-add-k : tie.Need-add-k Inv-loop μ-loop
-add-k c = search needs
-
-loop-less : tie.Need-loop-less Inv-loop μ-loop
-loop-less c = search needs
+    body-good (s .args .c .now) (s .pre .0) _ (one-of n) _ (body b .is) (s .args .n) (s .pre .1)
 
 loop-again : tie.Need-loop-again Inv-loop μ-loop
 loop-again c =
@@ -77,12 +63,7 @@ loop-again c =
     let b = p .before .before in
     let n = b .before in
     let x = n .before in
-    let v = x .loop .inv in
-    let y = writes-both _ _ _ _ _ _ _ _ (p .put-number .ensures .0) (t .put-tree .ensures .0) in
-    (omega (arith, n .loop-test .taken), omega (arith, v .1, p .put-number .ensures .1, t .put-tree .ensures .1), papers-next _ _ _ (x .loop .k) _ (body b .is) _ _ _ _ (v .2) y)
-
-same-length : tie.Need-same-length Inv-loop μ-loop
-same-length c = c .before .loop .inv .2 .kept
+    (omega (arith, n .loop-test .taken), papers-next _ _ _ (x .loop .k) _ (body b .is) _ _ _ _ (x .loop .inv .1) (writes-both (p .put-number .ensures) (t .put-tree .ensures)))
 
 returns : tie.Need-returns Inv-loop μ-loop
 returns c =
@@ -90,7 +71,7 @@ returns c =
     let v = x .loop .inv in
     let s = begun x in
     let e : x .loop .k ≡ s .args .count = omega (arith, v .0, c .loop-test .left) in
-    (writes-as _ _ _ _ _ _ (ap (papersText (s .args .c .now)) e) (v .2), omega (arith, v .0, v .1))
+    writes-as (ap (papersText (s .args .c .now)) e) (v .1)
 
 pub put-papers-spec : {M : Type 1} → statement M
 put-papers-spec =
@@ -98,16 +79,16 @@ put-papers-spec =
     (tie.spec
     Inv-loop
     μ-loop
-    loop-holds
+    (λ c. (omega arith, papers-none _ _ _))
     body-span-requires
     put-number-requires
-    slice-aggregate-put-tree
+    (λ c. search needs)
     sub-put-tree
     part-put-tree-start
     part-put-tree-end
     put-tree-requires
-    add-k
-    loop-less
+    (λ c. search needs)
+    (λ c. search needs)
     loop-again
-    same-length
+    (λ c. c .before .loop .inv .1 .kept)
     returns)

@@ -1,6 +1,6 @@
 -- What was written are the lines of the first k papers. Assumes nothing.
 use mathlib.Core.Path.{_≡_, ap}
-use Prim.Native.Nat.{_+_, _*_, _-_, _<_, _≤_}
+use Prim.Native.Nat.{_-_, _<_, _≤_}
 use native.Mathlib.Omega.{arith}
 use borrow.Author.Needs.{needs}
 use Rattle.collections.specs.Layout.{trees}
@@ -13,7 +13,7 @@ use Rattle.papers_text.proofs.put_sides.Statement.{statement}
 use Rattle.papers_text.proofs.put_sides.Tie as tie
 
 abbrev Inv-loop : tie.InvT-loop
-Inv-loop out₀ at set c count next₀ k₀ out next k = (k ≤ count) × (next ≤ at + 333 * k) × Writes out₀ at (sidesText set c k) out next
+Inv-loop out₀ at set c count next₀ k₀ out next k = (k ≤ count) × Writes out₀ at (sidesText set c k) out next
 
 abbrev μ-loop : tie.MeasureT-loop
 μ-loop out₀ at set c count next₀ k₀ out next k = count - k
@@ -23,17 +23,14 @@ begun x = x .before .before .before
 
 -- the paper of this turn is one of the collection's
 one-of : (n : tie.In-loop Inv-loop μ-loop) → n .before .loop .k < trees (begun (n .before) .args .c .now)
-one-of n = omega (arith, n .loop-test .taken, begun (n .before) .pre .1 .1)
-
-loop-holds : tie.Need-loop-holds Inv-loop μ-loop
-loop-holds c = let s = c .before .before in (omega arith, omega arith, sides-none _ _ (s .args .at) (s .args .set) (omega (arith, s .pre .0)))
+one-of n = omega (arith, n .loop-test .taken, begun (n .before) .pre .1)
 
 body-span-requires : tie.Need-body-span-requires Inv-loop μ-loop
-body-span-requires c κs = let s = begun (c .before) in inside (s .args .c .now) (s .pre .1 .0) (c .before .loop .k) (one-of c)
+body-span-requires c κs = let s = begun (c .before) in inside (s .args .c .now) (s .pre .0) (c .before .loop .k) (one-of c)
 
 -- where the body of this turn stands
 body : (b : tie.After-body-span Inv-loop μ-loop) → Found (begun (b .before .before) .args .c .now) (b .before .before .loop .k) (b .body-span .result .start) (b .body-span .result .end)
-body b = let s = begun (b .before .before) in found (s .args .c .now) (s .pre .1 .0) _ (one-of (b .before)) _ _ (b .body-span .ensures .0) (b .body-span .ensures .1)
+body b = let s = begun (b .before .before) in found (s .args .c .now) (s .pre .0) _ (one-of (b .before)) _ _ (b .body-span .ensures .0) (b .body-span .ensures .1)
 
 sub-put-side : tie.Need-sub-put-side Inv-loop μ-loop
 sub-put-side c = body (c .before) .ordered
@@ -49,17 +46,8 @@ put-side-requires c κs =
     let b = c .before .before in
     let n = b .before in
     let x = n .before in
-    let s = begun x in (
-      omega (arith, n .loop-test .taken, x .loop .inv .1, x .loop .inv .2 .kept, s .pre .0),
-      one-of-16 (s .args .c .now) (s .pre .1 .0) _ (one-of n),
-      body-64 (s .args .c .now) (s .pre .1 .0) _ (one-of n) _ (body b .is),
-    )
-
-add-k : tie.Need-add-k Inv-loop μ-loop
-add-k c = search needs
-
-loop-less : tie.Need-loop-less Inv-loop μ-loop
-loop-less c = search needs
+    let s = begun x in
+    (one-of-16 (s .args .c .now) (s .pre .0) _ (one-of n), body-64 (s .args .c .now) (s .pre .0) _ (one-of n) _ (body b .is))
 
 loop-again : tie.Need-loop-again Inv-loop μ-loop
 loop-again c =
@@ -67,11 +55,7 @@ loop-again c =
     let b = p .before .before .before in
     let n = b .before in
     let x = n .before in
-    let v = x .loop .inv in
-    (omega (arith, n .loop-test .taken), omega (arith, v .1, p .put-side .ensures .1), sides-next _ _ _ (x .loop .k) _ (body b .is) _ _ _ _ _ (v .2) (p .put-side .ensures .0))
-
-same-length : tie.Need-same-length Inv-loop μ-loop
-same-length c = c .before .loop .inv .2 .kept
+    (omega (arith, n .loop-test .taken), sides-next _ _ _ (x .loop .k) _ (body b .is) _ _ _ _ _ (x .loop .inv .1) (p .put-side .ensures))
 
 returns : tie.Need-returns Inv-loop μ-loop
 returns c =
@@ -79,7 +63,7 @@ returns c =
     let v = x .loop .inv in
     let s = begun x in
     let e : x .loop .k ≡ s .args .count = omega (arith, v .0, c .loop-test .left) in
-    (writes-as _ _ _ _ _ _ (ap (sidesText (s .args .set) (s .args .c .now)) e) (v .2), omega (arith, v .0, v .1))
+    writes-as (ap (sidesText (s .args .set) (s .args .c .now)) e) (v .1)
 
 pub put-sides-spec : {M : Type 1} → statement M
 put-sides-spec =
@@ -87,14 +71,14 @@ put-sides-spec =
     (tie.spec
     Inv-loop
     μ-loop
-    loop-holds
+    (λ c. (omega arith, sides-none _ _ _ _))
     body-span-requires
     sub-put-side
     part-put-side-start
     part-put-side-end
     put-side-requires
-    add-k
-    loop-less
+    (λ c. search needs)
+    (λ c. search needs)
     loop-again
-    same-length
+    (λ c. c .before .loop .inv .1 .kept)
     returns)

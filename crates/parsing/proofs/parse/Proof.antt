@@ -9,11 +9,11 @@ use lib.Seq.{length-take-le}
 use Rattle.answers.specs.Looks.{lookCount}
 use Rattle.answers.specs.declared.Look.the-variants.{Pass}
 use Rattle.bodies.specs.Nodes.{bodyLength}
-use Rattle.parsing.specs.Goes.{Whole}
+use Rattle.subtrees.specs.Subtrees.{Whole}
 use Rattle.parsing.specs.Parses.{Puts}
-use Rattle.parsing.specs.declared.Got.the-variants.{At}
+use Rattle.numerals.specs.declared.Got.the-variants.{At}
 use Rattle.parsing.proofs.Answered.{is-bad-count, is-bad-text, is-put, is-too-long}
-use Rattle.parsing.proofs.Wholes.{told-whole}
+use Rattle.subtrees.proofs.Wholes.{told-whole}
 use Rattle.parsing.proofs.parse.Statement.{statement}
 use Rattle.parsing.proofs.parse.Tie as tie
 

@@ -7,7 +7,7 @@ use lib.ListN.{length}
 use lib.Seq.{take-all}
 use Prim.Native.Nat.{ℕ}
 use Rattle.answers.proofs.Answered.{is-done, is-refused}
-use Rattle.answers.specs.declared.Refusal.the-variants.{BadTree, ShortRoom}
+use Rattle.refusals.specs.declared.Refusal.the-variants.{BadTree, ShortRoom}
 use Rattle.bodies.specs.Draws.{written}
 use Rattle.bodies.specs.Nodes.{bodyLength}
 use Rattle.parsing.proofs.put_body.Statement.{statement}

@@ -10,10 +10,10 @@ use Rattle.trees.proofs.Triplets.{different-i}
 use Rattle.trees.specs.Check.{differs}
 use Rattle.trees.specs.Trees.{Tree}
 use Rattle.tables.specs.Bytes.{entered}
-use Rattle.tables.specs.Index.{index}
+use Rattle.triples.specs.Index.{index}
 use Rattle.groups.specs.Groups.{Candidate}
 use Rattle.pc.proofs.Contradicted.{contrary-differs}
-use Rattle.tables.proofs.Search.{Clear, clear-level, clear-next, clear-row, clear-start, finds-at, finds-nowhere}
+use Rattle.triples.proofs.Search.{Clear, clear-level, clear-next, clear-row, clear-start, finds-at, finds-nowhere}
 use Rattle.pc.proofs.first_contradiction.Statement.{statement}
 use Rattle.pc.proofs.first_contradiction.Tie as tie
 

@@ -4,9 +4,9 @@ use Prim.Native.Nat.{_-_, _≤_}
 use native.Mathlib.Omega.{arith}
 use borrow.Author.Needs.{needs}
 use Rattle.trees.specs.Check.{R}
-use Rattle.tables.specs.Index.{index}
+use Rattle.triples.specs.Index.{index}
 use Rattle.pi.proofs.Cores.{memo-none}
-use Rattle.tables.proofs.Search.{clear-level, clear-row, clear-start, finds-nowhere}
+use Rattle.triples.proofs.Search.{clear-level, clear-row, clear-start, finds-nowhere}
 use Rattle.pi.proofs.Unforced.{Upto, ends-here, goes-on}
 use Rattle.pi.proofs.first_unforced.Statement.{statement}
 use Rattle.pi.proofs.first_unforced.Tie as tie

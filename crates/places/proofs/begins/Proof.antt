@@ -12,9 +12,6 @@ returns c = no-node-elsewhere (c .before .args .b) _ (not-true _ (c .if1 .taken)
 returns-2 : tie.Need-returns-2
 returns-2 c = opening-begins (c .before .before .args .b) (c .if2 .taken) _ (not-false _ (c .before .if1 .left))
 
-digit-requires : tie.Need-digit-requires
-digit-requires c κs = search needs
-
 returns-3 : tie.Need-returns-3
 returns-3 c =
     let d = c .before in
@@ -28,4 +25,5 @@ returns-4 c =
     none-begins (e .before .args .b) (d .before .if2 .left) (sym (d .digit .ensures) ∙ c .if3 .left) _ (not-false _ (e .if1 .left))
 
 pub begins-spec : {M : Type 1} → statement M
-begins-spec = tie.close (tie.spec returns returns-2 digit-requires returns-3 returns-4)
+begins-spec = tie.close (tie.spec
+    returns returns-2 (λ c κs. search needs) returns-3 returns-4)

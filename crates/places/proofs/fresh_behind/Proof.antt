@@ -11,9 +11,6 @@ returns c = λ p e. fresh-opened (c .before .args .b) (c .if1 .taken) p
 returns-2 : tie.Need-returns-2
 returns-2 c = λ p e. fresh-listed (c .before .before .args .b) (c .if2 .taken) p
 
-blank-requires : tie.Need-blank-requires
-blank-requires c κs = search needs
-
 returns-3 : tie.Need-returns-3
 returns-3 c =
     let d = c .before in
@@ -26,4 +23,5 @@ returns-4 c =
     λ p q. not-fresh (e .before .args .b) (e .if1 .left) (d .before .if2 .left) (sym (d .blank .ensures) ∙ c .if3 .left) p
 
 pub fresh-behind-spec : {M : Type 1} → statement M
-fresh-behind-spec = tie.close (tie.spec returns returns-2 blank-requires returns-3 returns-4)
+fresh-behind-spec = tie.close (tie.spec
+    returns returns-2 (λ c κs. search needs) returns-3 returns-4)

@@ -21,12 +21,6 @@ abbrev μ-loop : tie.MeasureT-loop
 loop-holds : tie.Need-loop-holds Inv-loop μ-loop
 loop-holds c = (search needs, (fresh-spot, refl, zero-add _))
 
-shared-slice-read-begins : tie.Need-shared-slice-read-begins Inv-loop μ-loop
-shared-slice-read-begins c = search needs
-
-begins-requires : tie.Need-begins-requires Inv-loop μ-loop
-begins-requires c κs = search needs
-
 returns : tie.Need-returns Inv-loop μ-loop
 returns c =
     let b = c .before in
@@ -34,18 +28,6 @@ returns c =
     let w = b .before .before .before .before .before .args .text .now in
     let p = l .inv .1 .0 in
     sym (place-reached w (l .i) p (l .left) (b .begins .result) (b .before .before .loop-test .taken) (b .begins .ensures p (l .inv .1 .1)) (c .if1 .taken)) ∙ l .inv .1 .2
-
-shared-slice-read-fresh-behind : tie.Need-shared-slice-read-fresh-behind Inv-loop μ-loop
-shared-slice-read-fresh-behind c = search needs
-
-fresh-behind-requires : tie.Need-fresh-behind-requires Inv-loop μ-loop
-fresh-behind-requires c κs = search needs
-
-add-i : tie.Need-add-i Inv-loop μ-loop
-add-i c = search needs
-
-loop-less : tie.Need-loop-less Inv-loop μ-loop
-loop-less c = search needs
 
 loop-again : tie.Need-loop-again Inv-loop μ-loop
 loop-again c =
@@ -69,18 +51,6 @@ returns-2 c =
     sym (place-none w (l .i) (l .inv .1 .0) (l .left) (l .inv .0) (c .loop-test .left)) ∙ l .inv .1 .2
 
 pub node-place-spec : {M : Type 1} → statement M
-node-place-spec =
-    tie.close
-    (tie.spec
-    Inv-loop
-    μ-loop
-    loop-holds
-    shared-slice-read-begins
-    begins-requires
-    returns
-    shared-slice-read-fresh-behind
-    fresh-behind-requires
-    add-i
-    loop-less
-    loop-again
-    returns-2)
+node-place-spec = tie.close (tie.spec
+    Inv-loop μ-loop loop-holds (λ c. search needs) (λ c κs. search needs) returns (λ c. search needs)
+    (λ c κs. search needs) (λ c. search needs) (λ c. search needs) loop-again returns-2)

@@ -8,11 +8,9 @@ use Rattle.pull.proofs.print.Tie as tie
 slice-aggregate-write-all : tie.Need-slice-aggregate-write-all
 slice-aggregate-write-all c = sym (length-take-le _ _ (c .before .before .before .pre .inside))
 
-write-all-requires : tie.Need-write-all-requires
-write-all-requires c κs = search needs
-
 returns : tie.Need-returns
 returns c = search needs
 
 pub print-spec : {M : Type 1} → statement M
-print-spec = tie.close (tie.spec slice-aggregate-write-all write-all-requires returns)
+print-spec = tie.close (tie.spec
+    slice-aggregate-write-all (λ c κs. search needs) returns)

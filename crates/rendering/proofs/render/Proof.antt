@@ -1,24 +1,24 @@
 -- `rendering::render` meets its contract: what the looks refuse, a short room, and what is written where nothing is refused. Assumes nothing.
 use mathlib.Core.List.{List, [], _∷_, _++_}
 use mathlib.Core.Path.{_∙_, _≡_, ap, ap₂, refl, sym}
-use Prim.Native.Nat.{ℕ, _+_, _≤_}
+use Prim.Native.Nat.{ℕ, _≤_}
 use native.Mathlib.Omega.{arith}
 use borrow.Author.Needs.{needs}
 use borrow.Author.Tests.{le-ltb, lt-ltb}
-use lib.ListN.{drop, length, length-append, take}
-use Rattle.trees.specs.Trees.{house}
+use lib.ListN.{drop, length, take}
 use Rattle.bodies.proofs.Written.{written-cut}
-use Rattle.bodies.specs.Draws.{treeOf, written}
+use Rattle.bodies.specs.Draws.{written}
 use Rattle.answers.proofs.Answered.{first-on, first-stop, is-done, is-refused, then-pass}
 use Rattle.answers.proofs.Good.{body-pass, count-pass}
 use Rattle.answers.specs.Inputs.{Body, Count}
 use Rattle.answers.specs.Looks.{andThen, firstRefusal, lookCount, lookLength, lookRoom, lookRules}
 use Rattle.answers.specs.declared.Look.{Look}
 use Rattle.answers.specs.declared.Look.the-variants.{Pass}
-use Rattle.answers.specs.declared.Refusal.the-variants.{ShortRoom}
+use Rattle.refusals.specs.declared.Refusal.the-variants.{ShortRoom}
 use Rattle.children.proofs.Ready.{Ready, is-ready}
-use Rattle.writing.proofs.Writing.{writes-both}
-use Rattle.rendering.specs.Texts.{newickText, subtreeText, textRoom}
+use Rattle.writing.proofs.Writing.{writes-both, writes-next, writes-whole}
+use Rattle.writing.specs.Writes.{Writes}
+use Rattle.rendering.specs.Texts.{newickText}
 use Rattle.rendering.proofs.Texts.{body-longest}
 use Rattle.rendering.proofs.render.Statement.{statement}
 use Rattle.rendering.proofs.render.Tie as tie
@@ -60,10 +60,6 @@ module _ (c : tie.After-enum-told) where
   ready : Ready (body seen)
   ready = is-ready (n seen) (body seen) (right-count .most) (good-body .good) (good-body .long)
 
-  -- the text fits into the draft: what stands before the semicolon, and the semicolon
-  fits : length (subtreeText (house (treeOf (body seen)))) + 1 ≤ textRoom
-  fits = omega (arith, body-longest right-count good-body, length-append (subtreeText (house (treeOf (body seen)))) (59 ∷ []))
-
 -- once the text stands in the draft
 module _ (c : tie.After-put2) where
   abbrev before-text : tie.After-put
@@ -75,29 +71,16 @@ module _ (c : tie.After-put2) where
   abbrev text : List ℕ
   text = newickText (body (seen good))
 
+  -- whole, since it fits into the draft
   wrote : (take (c .put2 .result) (c .put2 .last .0) ≡ text) × (c .put2 .result ≡ length text) × (c .put2 .result ≤ length (c .put2 .last .0))
   wrote =
-      let w = writes-both _ _ _ _ _ _ _ _ (before-text .put .ensures) (c .put2 .ensures) in
-      (w .text, omega (arith, w .next), omega (arith, w .inside, w .kept))
+      let w : Writes _ _ text _ _ = writes-both (before-text .put .ensures) (c .put2 .ensures) in
+      let fits = body-longest (right-count good) (good-body good) in
+      (writes-whole w (omega (arith, fits)), omega (arith, writes-next w (omega (arith, fits))), omega (arith, w .inside (omega arith), w .kept))
 
   -- and was copied over the front of the room o
   copied : (o o′ : List ℕ) → length text ≤ length o → o′ ≡ take (c .put2 .result) (c .put2 .last .0) ++ drop (c .put2 .result) o → o′ ≡ written o text
   copied o o′ l e = e ∙ ap₂ (λ (w : List ℕ) (k : ℕ). w ++ drop k o) (wrote .0) (wrote .1) ∙ sym (written-cut o text l)
-
-look-count-requires : tie.Need-look-count-requires
-look-count-requires c κs = search needs
-
-look-body-requires : tie.Need-look-body-requires
-look-body-requires c κs = search needs
-
-and-then-requires : tie.Need-and-then-requires
-and-then-requires c κs = search needs
-
-enum-told : tie.Need-enum-told
-enum-told c = search needs
-
-enum-known-look : tie.Need-enum-known-look
-enum-known-look c = search needs
 
 returns : tie.Need-returns
 returns c =
@@ -108,23 +91,12 @@ returns c =
 groups-requires : tie.Need-groups-requires
 groups-requires c κs = let r = ready (c .before) in (r .good, (r .few, search needs))
 
-slice-aggregate-put : tie.Need-slice-aggregate-put
-slice-aggregate-put c = search needs
-
 put-requires : tie.Need-put-requires
 put-requires c κs =
     let g = c .before .before in
     let e = g .before .before in
     let r = ready e in
-    (r .good, (g .groups2 .ensures, ((r .some, r .few), omega (arith, fits e))))
-
-slice-aggregate-put-2 : tie.Need-slice-aggregate-put-2
-slice-aggregate-put-2 c = search needs
-
-put-requires-2 : tie.Need-put-requires-2
-put-requires-2 c κs =
-    let q = c .before .before in
-    omega (arith, q .put .ensures .next, q .put .ensures .kept, fits (q .before .before .before .before .before))
+    (r .good, (g .groups2 .ensures, (r .some, r .few)))
 
 returns-2 : tie.Need-returns-2
 returns-2 c =
@@ -133,16 +105,10 @@ returns-2 c =
     is-refused ShortRoom
     (first-on (early x) (late x) (passed (good p)) ∙ rw (lt-ltb (length (room x)) (length (text p)) (omega (arith, c .if1 .taken, wrote p .1))) refl)
 
-slice-aggregate-copy : tie.Need-slice-aggregate-copy
-slice-aggregate-copy c = search needs
-
 copy-requires : tie.Need-copy-requires
 copy-requires c κs =
     let i = c .before .before in
     (wrote (i .before .before) .2, i .if1 .left)
-
-same-length : tie.Need-same-length
-same-length c = search needs
 
 returns-3 : tie.Need-returns-3
 returns-3 c =
@@ -158,19 +124,19 @@ pub render-spec : {M : Type 1} → statement M
 render-spec =
     tie.close
     (tie.spec
-    look-count-requires
-    look-body-requires
-    and-then-requires
-    enum-told
-    enum-known-look
+    (λ c κs. search needs)
+    (λ c κs. search needs)
+    (λ c κs. search needs)
+    (λ c. search needs)
+    (λ c. search needs)
     returns
     groups-requires
-    slice-aggregate-put
+    (λ c. search needs)
     put-requires
-    slice-aggregate-put-2
-    put-requires-2
+    (λ c. search needs)
+    (λ c κs. search needs)
     returns-2
-    slice-aggregate-copy
+    (λ c. search needs)
     copy-requires
-    same-length
+    (λ c. search needs)
     returns-3)

@@ -1,25 +1,16 @@
 -- What 0 returns, or the refusal. Assumes nothing.
-use mathlib.Core.Path.{_∙_}
+use mathlib.Core.Path.{refl}
 use borrow.Author.Needs.{needs}
 use Rattle.collections.specs.Reads.{readTold}
-use Rattle.replies.proofs.Replying.{reply-as}
+use Rattle.refusals.proofs.Replying.{replies-as, replies-by}
 use Rattle.replies.proofs.read.Statement.{statement}
 use Rattle.replies.proofs.read.Tie as tie
 
-enum-known-a : tie.Need-enum-known-a
-enum-known-a c = search needs
-
-enum-known-a-2 : tie.Need-enum-known-a-2
-enum-known-a-2 c = search needs
-
-refusal-requires : tie.Need-refusal-requires
-refusal-requires c κs = search needs
-
 returns : tie.Need-returns
-returns c = reply-as readTold (c .before .a .given .1)
+returns c = replies-as readTold (c .before .a .given .1) refl refl refl
 
 returns-2 : tie.Need-returns-2
-returns-2 c = c .refusal .ensures ∙ reply-as readTold (c .before .before .a2 .given .1)
+returns-2 c = replies-by readTold (c .before .before .a2 .given .1) (c .reply-of .ensures)
 
 pub read-spec : {M : Type 1} → statement M
-read-spec = tie.close (tie.spec enum-known-a enum-known-a-2 refusal-requires returns returns-2)
+read-spec = tie.close (tie.spec (λ c. search needs) (λ c. search needs) (λ c κs. search needs) returns returns-2)

@@ -7,8 +7,8 @@ use borrow.Author.Needs.{needs}
 use lib.ListN.{length, take}
 use lib.Seq.{length-take-le}
 use Rattle.answers.specs.Inputs.{Body}
-use Rattle.loosening.specs.Loosens.{lent}
-use Rattle.loosening.specs.declared.Tally.{Tally}
+use Rattle.easing.specs.Eases.{lent}
+use Rattle.easing.specs.declared.Tally.{Tally}
 use Rattle.writing.proofs.Writing.{writes-as, writes-nothing}
 use Rattle.sending.proofs.Left.{LeftGood, done-told, left-good, refused-told}
 use Rattle.sending.specs.Pulls.{InPreorder}
@@ -35,7 +35,7 @@ module _ (k : tie.After-answer) where
   good : LeftGood (st .args .n) (lent room list) w
   good =
       let l = loosened .loosen .ensures in
-      left-good (st .args .n) (st .args .t .now) (st .args .body .now) _ (l .is) (lent room list) (l .holds) w (k .answer .given .1) (st .pre .1) (st .pre .2)
+      left-good (st .args .n) (st .args .t .now) (st .args .body .now) _ (l .is) (lent room list) (l .holds) w (k .answer .given .1) (st .pre .0) (st .pre .1)
 
   list-fits : w .dropped ≤ length list
   list-fits = omega (arith, good .few-dropped, k .before .before .list2 .given)
@@ -47,18 +47,6 @@ module _ (e : tie.After-body-length) where
 
   room-fits : e .body-length .result ≤ length (room done)
   room-fits = omega (arith, good done .few, e .body-length .ensures, done .before .before .before .room2 .given)
-
-slice-aggregate-loosen : tie.Need-slice-aggregate-loosen
-slice-aggregate-loosen c = search needs
-
-slice-aggregate-loosen-2 : tie.Need-slice-aggregate-loosen-2
-slice-aggregate-loosen-2 c = search needs
-
-loosen-requires : tie.Need-loosen-requires
-loosen-requires c κs = search needs
-
-enum-known-answer : tie.Need-enum-known-answer
-enum-known-answer c = search needs
 
 body-length-requires : tie.Need-body-length-requires
 body-length-requires c κs = good (c .before) .few
@@ -80,16 +68,8 @@ put-lines-requires c κs =
     let e = c .before .before .before in
     let k = done e in
     let s = st k in
-    let q = sym (e .body-length .ensures) in (
-      (s .pre .0, omega (arith, length-take-le (w k .dropped) (list k) (list-fits k), good k .few-dropped)),
-      (s .pre .1, subst (λ (j : ℕ). Body (s .args .n) (take j (room k))) q (good k .body), subst (λ (j : ℕ). InPreorder (take j (room k))) q (good k .preorder)),
-    )
-
-enum-told : tie.Need-enum-told
-enum-told c = search needs
-
-same-length : tie.Need-same-length
-same-length c = search needs
+    let q = sym (e .body-length .ensures) in
+    (s .pre .0, subst (λ (j : ℕ). Body (s .args .n) (take j (room k))) q (good k .body), subst (λ (j : ℕ). InPreorder (take j (room k))) q (good k .preorder))
 
 returns : tie.Need-returns
 returns c =
@@ -99,7 +79,7 @@ returns c =
     let s = st k .args in
     let l = loosened k .loosen .ensures in
     let told = done-told (s .n) (s .t .now) (s .body .now) _ (l .is) (lent (room k) (list k)) (l .holds) (w k) (k .answer .given .1) _ (e .body-length .ensures) in
-    (writes-as _ _ _ _ _ _ told (p .put-lines .ensures .0), p .put-lines .ensures .1)
+    writes-as told (p .put-lines .ensures)
 
 returns-2 : tie.Need-returns-2
 returns-2 c =
@@ -107,23 +87,23 @@ returns-2 c =
     let s = x .before .before .before .before .before .before in
     let l = x .loosen .ensures in
     let told = refused-told (s .args .n) (s .args .t .now) (s .args .body .now) _ (l .is) _ (l .holds) _ (c .enum-told .given .1) in
-    (writes-as _ _ _ _ _ _ told (writes-nothing _ _ (omega (arith, s .pre .0))), omega arith)
+    writes-as told (writes-nothing _ _)
 
 pub put-sent-spec : {M : Type 1} → statement M
 put-sent-spec =
     tie.close
     (tie.spec
-    slice-aggregate-loosen
-    slice-aggregate-loosen-2
-    loosen-requires
-    enum-known-answer
+    (λ c. search needs)
+    (λ c. search needs)
+    (λ c κs. search needs)
+    (λ c. search needs)
     body-length-requires
     array-share-prefix-room
     slice-aggregate-put-lines
     array-share-prefix-list
     slice-aggregate-put-lines-2
     put-lines-requires
-    enum-told
-    same-length
+    (λ c. search needs)
+    (λ c. search needs)
     returns
     returns-2)

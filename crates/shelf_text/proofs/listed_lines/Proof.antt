@@ -7,8 +7,8 @@ use lib.ListN.{drop, length, length-append, take}
 use lib.Seq.{length-take-le, take-at}
 use Rattle.tables.proofs.Fillings.{table-length}
 use Rattle.trees.proofs.Combinations.{C-more}
-use Rattle.tables.proofs.Values.{C-64-3}
-use Rattle.tables.specs.Index.{C}
+use Rattle.triples.proofs.Values.{C-64-3}
+use Rattle.triples.specs.Index.{C}
 use Rattle.collections.specs.Layout.{species, trees}
 use Rattle.listing.specs.Lists.{listOf, saidUpTo}
 use Rattle.shelf_text.specs.Shelf.{tableText}
@@ -17,15 +17,15 @@ use Rattle.writing.proofs.Writing.{writes-as}
 use Rattle.shelf_text.proofs.listed_lines.Statement.{statement}
 use Rattle.shelf_text.proofs.listed_lines.Tie as tie
 
-abbrev begun : tie.After-table-length → tie.Start
+abbrev begun : tie.After-count → tie.Start
 begun c = c .before .before .before .before
 
 -- the table is long enough
-inside : (c : tie.After-table-length) → c .table-length .result ≤ length (begun c .args .table .now)
+inside : (c : tie.After-count) → c .count .result ≤ length (begun c .args .table .now)
 inside c =
     let s = begun c in
     let n : s .args .n ≤ 64 = omega (arith, s .pre .1 .1, s .pre .1 .0 .most) in
-    omega (arith, c .table-length .ensures, C-more 3 (s .args .n) 64 n, C-64-3, s .pre .0 .1)
+    omega (arith, c .count .ensures, C-more 3 (s .args .n) 64 n, C-64-3, s .pre .0)
 
 -- what the listing wrote
 whole : (c : tie.After-list) → c .list .last .1 .0 ≡ listOf (begun (c .before .before) .args .b .now)
@@ -34,19 +34,19 @@ whole c =
     let s = begun m in
     let b = s .args .b .now in
     let w = s .pre .1 .0 in
-    let e : length (take (m .table-length .result) (s .args .table .now)) ≡ C (species b) 3 = length-take-le _ _ (inside m) ∙ m .table-length .ensures ∙ ap (λ (n : ℕ). C n 3) (s .pre .1 .1) in
-    c .list .ensures .holds ∙ list-whole b w (take (m .table-length .result) (s .args .table .now)) e
+    let e : length (take (m .count .result) (s .args .table .now)) ≡ C (species b) 3 = length-take-le _ _ (inside m) ∙ m .count .ensures ∙ ap (λ (n : ℕ). C n 3) (s .pre .1 .1) in
+    c .list .ensures .holds ∙ list-whole b w (take (m .count .result) (s .args .table .now)) e
 
 -- it is as long as the front
-whole-length : (c : tie.After-list) → length (c .list .last .1 .0) ≡ c .before .before .table-length .result
+whole-length : (c : tie.After-list) → length (c .list .last .1 .0) ≡ c .before .before .count .result
 whole-length c =
     let m = c .before .before in
     let s = begun m in
     let b = s .args .b .now in
-    ap length (whole c) ∙ table-length (species b) (saidUpTo b (trees b)) ∙ ap (λ (n : ℕ). C n 3) (sym (s .pre .1 .1)) ∙ sym (m .table-length .ensures)
+    ap length (whole c) ∙ table-length (species b) (saidUpTo b (trees b)) ∙ ap (λ (n : ℕ). C n 3) (sym (s .pre .1 .1)) ∙ sym (m .count .ensures)
 
-table-length-requires : tie.Need-table-length-requires
-table-length-requires c κs =
+count-requires : tie.Need-count-requires
+count-requires c κs =
     let s = c .before .before .before in
     omega (arith, s .pre .1 .1, s .pre .1 .0 .most)
 
@@ -56,48 +56,27 @@ slice-relend-prefix-list c = inside c
 slice-aggregate-list : tie.Need-slice-aggregate-list
 slice-aggregate-list c = sym (length-take-le _ _ (inside (c .before)))
 
-list-requires : tie.Need-list-requires
-list-requires c κs = search needs
-
 slice-reshare-prefix-build-lines : tie.Need-slice-reshare-prefix-build-lines
 slice-reshare-prefix-build-lines c =
     let l = c .before .before .before in
     let m = l .before .before in
-    omega (arith, length-append (l .list .last .1 .0) (drop (m .table-length .result) (begun m .args .table .now)), whole-length l)
+    omega (arith, length-append (l .list .last .1 .0) (drop (m .count .result) (begun m .args .table .now)), whole-length l)
 
 slice-aggregate-build-lines : tie.Need-slice-aggregate-build-lines
 slice-aggregate-build-lines c =
     let l = c .before .before .before .before in
-    sym (ap length (take-at (l .list .last .1 .0) _ (l .before .before .table-length .result) (whole-length l)) ∙ whole-length l)
-
-build-lines-requires : tie.Need-build-lines-requires
-build-lines-requires c κs = search needs
-
-same-length : tie.Need-same-length
-same-length c = search needs
-
-same-length-2 : tie.Need-same-length-2
-same-length-2 c = search needs
+    sym (ap length (take-at (l .list .last .1 .0) _ (l .before .before .count .result) (whole-length l)) ∙ whole-length l)
 
 returns : tie.Need-returns
 returns c =
     let d = c .before .before in
     let l = d .before .before .before .before .before in
     let m = l .before .before in
-    let e = take-at (l .list .last .1 .0) _ (m .table-length .result) (whole-length l) ∙ whole l in
-    writes-as _ _ _ _ _ _ (ap (tableText (begun m .args .n) (begun m .args .set)) e) (d .build-lines .ensures)
+    let e = take-at (l .list .last .1 .0) _ (m .count .result) (whole-length l) ∙ whole l in
+    writes-as (ap (tableText (begun m .args .n) (begun m .args .set)) e) (d .build-lines .ensures)
 
 pub listed-lines-spec : {M : Type 1} → statement M
-listed-lines-spec =
-    tie.close
-    (tie.spec
-    table-length-requires
-    slice-relend-prefix-list
-    slice-aggregate-list
-    list-requires
-    slice-reshare-prefix-build-lines
-    slice-aggregate-build-lines
-    build-lines-requires
-    same-length
-    same-length-2
-    returns)
+listed-lines-spec = tie.close (tie.spec
+    count-requires slice-relend-prefix-list slice-aggregate-list (λ c κs. search needs)
+    slice-reshare-prefix-build-lines slice-aggregate-build-lines (λ c κs. search needs) (λ c. search needs)
+    (λ c. search needs) returns)

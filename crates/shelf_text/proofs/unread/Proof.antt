@@ -1,62 +1,35 @@
--- The number, the tree number and the node. Assumes nothing.
-use mathlib.Core.List.{[], _∷_}
-use mathlib.Core.Path.{_∙_, ap, sym}
-use Prim.Native.Nat.{ℕ}
+-- The number, and what there is of the tree number and the node. Assumes nothing.
 use borrow.Author.Needs.{needs}
-use Rattle.replies.specs.Replied.{replied}
-use Rattle.replies.specs.declared.Reply.{Reply}
-use Rattle.shelf_text.specs.Shelf.{unreadNumbers}
+use Rattle.refusals.specs.Replies.{valuesOf}
+use Rattle.shelf_text.proofs.Told.{unread-both, unread-left, unread-none, unread-one}
 use Rattle.shelf_text.proofs.unread.Statement.{statement}
 use Rattle.shelf_text.proofs.unread.Tie as tie
 
-enum-known-s : tie.Need-enum-known-s
-enum-known-s c = search needs
-
-enum-known-s-2 : tie.Need-enum-known-s-2
-enum-known-s-2 c = search needs
-
-tree-requires : tie.Need-tree-requires
-tree-requires c κs = search needs
-
-enum-known-s-3 : tie.Need-enum-known-s-3
-enum-known-s-3 c = search needs
-
-enum-known-s-4 : tie.Need-enum-known-s-4
-enum-known-s-4 c = search needs
-
-enum-known-s-5 : tie.Need-enum-known-s-5
-enum-known-s-5 c = search needs
-
 returns : tie.Need-returns
-returns c = ap (λ (s : Reply). unreadNumbers (replied s)) (sym (c .before .s .given .1))
+returns c =
+    let s = c .before .before .args .s in
+    unread-left (s .number) (valuesOf s) (c .if1 .taken)
 
 returns-2 : tie.Need-returns-2
 returns-2 c =
-    let k = c .before .before in
-    let v = k .s2 .given .0 in
-    ap (λ (x : ℕ). v .0 ∷ x ∷ 0 ∷ []) (c .tree .ensures) ∙ ap (λ (s : Reply). unreadNumbers (replied s)) (sym (k .s2 .given .1))
+    let e = c .before .before in
+    let s = e .before .before .args .s in
+    unread-none (s .number) (s .values) (s .count) (e .if1 .left) (c .if2 .taken)
 
 returns-3 : tie.Need-returns-3
-returns-3 c = ap (λ (s : Reply). unreadNumbers (replied s)) (sym (c .before .s3 .given .1))
+returns-3 c =
+    let d = c .before .before in
+    let e = d .before .before in
+    let s = e .before .before .args .s in
+    unread-one (s .number) (s .values) (s .count) (e .if1 .left) (c .if3 .taken)
 
 returns-4 : tie.Need-returns-4
-returns-4 c = ap (λ (s : Reply). unreadNumbers (replied s)) (sym (c .before .s4 .given .1))
-
-returns-5 : tie.Need-returns-5
-returns-5 c = ap (λ (s : Reply). unreadNumbers (replied s)) (sym (c .before .s5 .given .1))
+returns-4 c =
+    let d = c .before .before in
+    let e = d .before .before in
+    let s = e .before .before .args .s in
+    unread-both (s .number) (s .values) (s .count) (e .if1 .left) (d .if2 .left) (c .if3 .left)
 
 pub unread-spec : {M : Type 1} → statement M
-unread-spec =
-    tie.close
-    (tie.spec
-    enum-known-s
-    enum-known-s-2
-    tree-requires
-    enum-known-s-3
-    enum-known-s-4
-    enum-known-s-5
-    returns
-    returns-2
-    returns-3
-    returns-4
-    returns-5)
+unread-spec = tie.close (tie.spec
+    returns returns-2 (λ c. search needs) returns-3 (λ c. search needs) (λ c. search needs) returns-4)

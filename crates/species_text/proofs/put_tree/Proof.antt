@@ -9,7 +9,7 @@ use lib.Seq.{length-take-le}
 use Rattle.writing.proofs.Writing.{writes-as, writes-both}
 use Rattle.rendering.specs.Texts.{newickText}
 use Rattle.rendering.specs.declared.Text.{Text}
-use Rattle.species_text.proofs.Rendered.{not-refused, text-few, text-inside, text-is}
+use Rattle.species_text.proofs.Rendered.{not-refused, text-inside, text-is}
 use Rattle.species_text.proofs.put_tree.Statement.{statement}
 use Rattle.species_text.proofs.put_tree.Tie as tie
 
@@ -27,52 +27,17 @@ module _ (k : tie.After-answer) where
   abbrev room : List ℕ
   room = rendered .render .last .1 .1 .0
 
-  few : text .length ≤ 308
-  few = text-few (st .pre .1 .0) (st .pre .1 .1) (omega arith) (rendered .render .ensures) text (k .answer .given .1)
-
   inside : text .length ≤ length room
-  inside = text-inside (st .pre .1 .0) (st .pre .1 .1) (omega arith) (rendered .render .ensures) text (k .answer .given .1)
+  inside = text-inside (st .pre .0) (st .pre .1) (omega arith) (rendered .render .ensures) text (k .answer .given .1)
 
   is : take (text .length) room ≡ newickText (st .args .body .now)
-  is = text-is (st .pre .1 .0) (st .pre .1 .1) (omega arith) (rendered .render .ensures) text (k .answer .given .1)
-
-slice-aggregate-render : tie.Need-slice-aggregate-render
-slice-aggregate-render c = search needs
-
-render-requires : tie.Need-render-requires
-render-requires c κs = search needs
-
-enum-known-answer : tie.Need-enum-known-answer
-enum-known-answer c = search needs
-
-put-word-requires : tie.Need-put-word-requires
-put-word-requires c κs = search needs
+  is = text-is (st .pre .0) (st .pre .1) (omega arith) (rendered .render .ensures) text (k .answer .given .1)
 
 array-share-prefix-text : tie.Need-array-share-prefix-text
 array-share-prefix-text c = inside (c .before .before .before .before .before .before)
 
 slice-aggregate-put-word : tie.Need-slice-aggregate-put-word
 slice-aggregate-put-word c = sym (length-take-le _ _ (inside (c .before .before .before .before .before .before .before)))
-
-put-word-requires-2 : tie.Need-put-word-requires-2
-put-word-requires-2 c κs =
-    let k = c .before .before .before .before .before .before .before in
-    let p = c .before .before .before .before .put-word .ensures in
-    omega (arith, few k, length-take-le (text k .length) (room k) (inside k), p .kept, p .next, st k .pre .0)
-
-put-requires : tie.Need-put-requires
-put-requires c κs =
-    let q = c .before .before .before in
-    let t = q .before in
-    let k = t .before .before .before .before .before .before .before in
-    let p = t .before .before .before .before .put-word .ensures in
-    omega (arith, few k, length-take-le (text k .length) (room k) (inside k), p .kept, p .next, q .put-word2 .ensures .kept, q .put-word2 .ensures .next, st k .pre .0)
-
-enum-told : tie.Need-enum-told
-enum-told c = search needs
-
-same-length : tie.Need-same-length
-same-length c = search needs
 
 returns : tie.Need-returns
 returns c =
@@ -81,30 +46,27 @@ returns c =
     let t = q .before in
     let k = t .before .before .before .before .before .before .before in
     let p = t .before .before .before .before .put-word .ensures in
-    let w = writes-as _ _ _ _ _ _ (is k) (q .put-word2 .ensures) in (
-      writes-both _ _ _ _ _ _ _ _ (writes-both _ _ _ _ _ _ _ _ p w) (r .put .ensures),
-      omega (arith, few k, length-take-le (text k .length) (room k) (inside k), p .next, q .put-word2 .ensures .next, r .put .ensures .next),
-    )
+    writes-both (writes-both p (writes-as (is k) (q .put-word2 .ensures))) (r .put .ensures)
 
 returns-2 : tie.Need-returns-2
 returns-2 c =
     let r = c .before .before .before in
     let s = r .before .before .before .before .before in
-    absurd (not-refused (s .pre .1 .0) (s .pre .1 .1) (omega arith) (r .render .ensures) _ (c .enum-told .given .1))
+    absurd (not-refused (s .pre .0) (s .pre .1) (omega arith) (r .render .ensures) _ (c .enum-told .given .1))
 
 pub put-tree-spec : {M : Type 1} → statement M
 put-tree-spec =
     tie.close
     (tie.spec
-    slice-aggregate-render
-    render-requires
-    enum-known-answer
-    put-word-requires
+    (λ c. search needs)
+    (λ c κs. search needs)
+    (λ c. search needs)
+    (λ c κs. search needs)
     array-share-prefix-text
     slice-aggregate-put-word
-    put-word-requires-2
-    put-requires
-    enum-told
-    same-length
+    (λ c κs. search needs)
+    (λ c κs. search needs)
+    (λ c. search needs)
+    (λ c. search needs)
     returns
     returns-2)

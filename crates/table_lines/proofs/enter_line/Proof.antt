@@ -7,36 +7,14 @@ use Rattle.table_lines.specs.Lines.{enterLine}
 use Rattle.table_lines.proofs.enter_line.Statement.{statement}
 use Rattle.table_lines.proofs.enter_line.Tie as tie
 
-enter-requires : tie.Need-enter-requires
-enter-requires c κs = search needs
-
-enter-requires-2 : tie.Need-enter-requires-2
-enter-requires-2 c κs = search needs
-
-put-barred-requires : tie.Need-put-barred-requires
-put-barred-requires c κs = search needs
-
-same-length : tie.Need-same-length
-same-length c = search needs
-
-same-length-2 : tie.Need-same-length-2
-same-length-2 c = search needs
-
 returns : tie.Need-returns
 unfolding enterLine
 returns c =
     let z = c .before .before in
     let s = z .before .before in
-    let a = s .before .before .before .before in
-    (writes-as _ _ _ _ _ _ (barred-line enterTold (s .enter2 .ensures) (a .enter .ensures .is) (a .enter .ensures .holds)) (z .put-barred .ensures), a .enter .ensures .holds)
+    let a = s .before .before .before .before .enter .ensures in
+    (writes-as (barred-line enterTold (s .enter2 .ensures) (a .is) (a .holds)) (z .put-barred .ensures), a .holds)
 
 pub enter-line-spec : {M : Type 1} → statement M
-enter-line-spec =
-    tie.close
-    (tie.spec
-    enter-requires
-    enter-requires-2
-    put-barred-requires
-    same-length
-    same-length-2
-    returns)
+enter-line-spec = tie.close (tie.spec
+    (λ c κs. search needs) (λ c κs. search needs) (λ c κs. search needs) (λ c. search needs) (λ c. search needs) returns)

@@ -18,8 +18,8 @@ abbrev μ-loop : tie.MeasureT-loop
 loop-holds : tie.Need-loop-holds Inv-loop μ-loop
 loop-holds c = (omega arith, refl, refl)
 
-slice-write-t : tie.Need-slice-write-t Inv-loop μ-loop
-slice-write-t c = search needs
+hold-requires : tie.Need-hold-requires Inv-loop μ-loop
+hold-requires c κs = search needs
 
 add-i : tie.Need-add-i Inv-loop μ-loop
 add-i c = search needs
@@ -29,9 +29,10 @@ loop-less c = search needs
 
 loop-again : tie.Need-loop-again Inv-loop μ-loop
 loop-again c =
-    let l = c .before .loop in
-    let t = c .before .before .args .t .now in
-    (omega arith, length-set (l .t) (l .i) 0 ∙ l .inv .1, ap (λ (s : List ℕ). set s (l .i) 0) (l .inv .2) ∙ fill-more (l .i) 0 t (omega arith))
+    let h = c .before .before in
+    let l = h .before .before .before .loop in
+    let t = h .before .before .before .before .before .args .t .now in
+    (omega arith, ap length (h .hold .ensures) ∙ length-set (l .t) (l .i) 0 ∙ l .inv .1, h .hold .ensures ∙ ap (λ (s : List ℕ). set s (l .i) 0) (l .inv .2) ∙ fill-more (l .i) 0 t (omega arith))
 
 same-length : tie.Need-same-length Inv-loop μ-loop
 same-length c = c .before .loop .inv .1
@@ -39,9 +40,9 @@ same-length c = c .before .loop .inv .1
 returns : tie.Need-returns Inv-loop μ-loop
 returns c =
     let l = c .before .loop in
-    let t = c .before .before .args .t .now in
+    let t = c .before .before .before .args .t .now in
     let e : l .i ≡ length t = omega arith in
     l .inv .2 ∙ rw (drop-of-length-le t {i = l .i} (omega arith), append-nil, e)
 
 pub clear-spec : {M : Type 1} → statement M
-clear-spec = tie.close (tie.spec Inv-loop μ-loop loop-holds slice-write-t add-i loop-less loop-again same-length returns)
+clear-spec = tie.close (tie.spec Inv-loop μ-loop loop-holds hold-requires add-i loop-less loop-again same-length returns)

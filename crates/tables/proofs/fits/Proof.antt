@@ -7,11 +7,11 @@ use lib.ListN.{length}
 use Rattle.tables.proofs.fits.Statement.{statement}
 use Rattle.tables.proofs.fits.Tie as tie
 
-table-length-requires : tie.Need-table-length-requires
-table-length-requires c κs = search needs
+count-requires : tie.Need-count-requires
+count-requires c κs = search needs
 
 returns : tie.Need-returns
-returns c = ap (λ (k : ℕ). eqb (length (c .before .before .args .t .now)) k) (c .table-length .ensures)
+returns c = ap (λ (k : ℕ). eqb (length (c .before .before .args .t .now)) k) (c .count .ensures)
 
 pub fits-spec : {M : Type 1} → statement M
-fits-spec = tie.close (tie.spec table-length-requires returns)
+fits-spec = tie.close (tie.spec count-requires returns)

@@ -18,14 +18,15 @@ abbrev μ-loop : tie.MeasureT-loop
 loop-holds : tie.Need-loop-holds Inv-loop μ-loop
 loop-holds c = (search needs, omega arith)
 
-shared-slice-read-if1 : tie.Need-shared-slice-read-if1 Inv-loop μ-loop
-shared-slice-read-if1 c = search needs
+held-requires : tie.Need-held-requires Inv-loop μ-loop
+held-requires c κs = search needs
 
 returns : tie.Need-returns Inv-loop μ-loop
 returns c =
     let l = c .before .before .before .loop in
-    let t = c .before .before .before .before .args .t .now in
-    omega (arith, over-here t (l .i) (omega arith) (omega arith))
+    let t = c .before .before .before .before .before .args .t .now in
+    let h = c .before .held .ensures in
+    omega (arith, over-here t (l .i) (omega arith) (omega (arith, h)))
 
 add-i : tie.Need-add-i Inv-loop μ-loop
 add-i c = search needs
@@ -36,13 +37,14 @@ loop-less c = search needs
 loop-again : tie.Need-loop-again Inv-loop μ-loop
 loop-again c =
     let l = c .before .before .before .loop in
-    let t = c .before .before .before .before .args .t .now in
-    (omega arith, omega (arith, over-next t (l .i) (omega arith) (omega arith)))
+    let t = c .before .before .before .before .before .args .t .now in
+    let h = c .before .held .ensures in
+    (omega arith, omega (arith, over-next t (l .i) (omega arith) (omega (arith, h))))
 
 returns-2 : tie.Need-returns-2 Inv-loop μ-loop
 returns-2 c =
     let l = c .before .loop in
-    let t = c .before .before .args .t .now in
+    let t = c .before .before .before .args .t .now in
     omega (arith, over-end t (l .i) (omega arith))
 
 pub over-spec : {M : Type 1} → statement M
@@ -52,7 +54,7 @@ over-spec =
     Inv-loop
     μ-loop
     loop-holds
-    shared-slice-read-if1
+    held-requires
     returns
     add-i
     loop-less

@@ -6,9 +6,6 @@ use Rattle.trial.proofs.OneCall.{one-call}
 use Rattle.trial.proofs.one_call.Statement.{statement}
 use Rattle.trial.proofs.one_call.Tie as tie
 
-read-call-requires : tie.Need-read-call-requires
-read-call-requires c κs = search needs
-
 make-requires : tie.Need-make-requires
 make-requires c κs =
     let k = c .before .before .before .before .before .before .before .before .before .before .before .before .before .before .before .before .before .before in
@@ -17,49 +14,15 @@ make-requires c κs =
     let i = k .read-call .ensures .1 in
     (omega (arith, i, l, s .pre), omega (arith, l, s .pre))
 
-same-length : tie.Need-same-length
-same-length c = search needs
-
-same-length-2 : tie.Need-same-length-2
-same-length-2 c = search needs
-
-same-length-3 : tie.Need-same-length-3
-same-length-3 c = search needs
-
-same-length-4 : tie.Need-same-length-4
-same-length-4 c = search needs
-
-same-length-5 : tie.Need-same-length-5
-same-length-5 c = search needs
-
-same-length-6 : tie.Need-same-length-6
-same-length-6 c = search needs
-
-same-length-7 : tie.Need-same-length-7
-same-length-7 c = search needs
-
-same-length-8 : tie.Need-same-length-8
-same-length-8 c = search needs
-
 returns : tie.Need-returns
 returns c =
     let m = c .before .before .before .before .before .before .before .before .before .make in
     let k = c .before .before .before .before .before .before .before .before .before .before .before .before .before .before .before .before .before .before .before .before .before .before .before .before .before .before .before .before .read-call in
     let l = k .last .1 .1 in
-    (one-call (k .result) (fieldsOf (k .result) (l .0) (l .1 .0) (l .1 .1 .0) (l .1 .1 .1 .0)) (k .ensures .0) (m .ensures), (k .ensures .0 .bytes .inside, m .ensures .writes .inside))
+    (one-call (k .result) (fieldsOf (k .result) (l .0) (l .1 .0) (l .1 .1 .0) (l .1 .1 .1 .0)) (k .ensures .0) (m .ensures), (k .ensures .0 .bytes .inside, m .ensures .inside))
 
 pub one-call-spec : {M : Type 1} → statement M
-one-call-spec =
-    tie.close
-    (tie.spec
-    read-call-requires
-    make-requires
-    same-length
-    same-length-2
-    same-length-3
-    same-length-4
-    same-length-5
-    same-length-6
-    same-length-7
-    same-length-8
-    returns)
+one-call-spec = tie.close (tie.spec
+    (λ c κs. search needs) make-requires
+    (λ c. search needs) (λ c. search needs) (λ c. search needs) (λ c. search needs)
+    (λ c. search needs) (λ c. search needs) (λ c. search needs) (λ c. search needs) returns)

@@ -45,7 +45,8 @@ use denote.Triple.Table.{entered, cited}
 use denote.Triple.Walked.{says, Stays, stay-none, stay-none-slice, gave-slice, walkOf, goes-none, goes-none-slice, goes-gave-slice, Walks, ends-at, walked, walk-meets}
 use Rattle.triplets.specs.declared.Triplet.{Triplet}
 use Rattle.entering.specs.declared.Answer.{Answer}
-use Rattle.entering.specs.Enters.{Enters, firstBad, decided}
+use Rattle.records.specs.Records.{firstBad}
+use Rattle.entering.specs.Enters.{Enters, decided}
 use Rattle.entering.specs.Passes.{Ready, cleared, filled, gathered}
 use Rattle.triplets.specs.Spelled.{spelled}
 use Rattle.entering.proofs.Answers.{passes-ready, passes-say}

@@ -52,7 +52,7 @@ use denote.Triple.Clauses.{ensured, lasts}
 use denote.Triple.Table.{entered, cited}
 use denote.Triple.Walked.{says, Stays, stay-none, stay-none-slice, walkOf, goes-none, goes-none-slice, Walks, ends-at, walked, walk-meets}
 use Rattle.triplets.specs.declared.Triplet.{Triplet}
-use Rattle.entering.specs.Enters.{firstBad}
+use Rattle.records.specs.Records.{firstBad}
 use Rattle.triplets.specs.Spelled.{nearer, spelled}
 use Rattle.triplets.proofs.Spelling.{searched, search-end, search-next, search-whole}
 use Rattle.triplets.proofs.Turns.{Below, below, loops}

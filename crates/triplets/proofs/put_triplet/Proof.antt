@@ -4,13 +4,13 @@ use mathlib.Core.Path.{_∙_, ap, sym}
 use Prim.Native.Nat.{_≤_}
 use native.Mathlib.Omega.{arith}
 use borrow.Author.Needs.{needs}
-use Rattle.entering.proofs.Filling.{good-place}
+use Rattle.records.proofs.Filling.{good-place}
 use Rattle.entering.proofs.Gathering.{gathered-one}
-use Rattle.entering.proofs.Records.{Good, firstBad-none, good-e}
+use Rattle.records.proofs.Records.{Good, firstBad-none, good-e}
 use Rattle.entering.specs.declared.Answer.{Answer}
 use Rattle.entering.specs.declared.Entry.{Entry}
 use Rattle.triplets.specs.declared.Triplet.{Triplet}
-use Rattle.entering.specs.Enters.{fill}
+use Rattle.records.specs.Records.{fill}
 use Rattle.entering.specs.Passes.{filled, gathered}
 use Rattle.triplets.specs.Spelled.{spelled}
 use Rattle.triplets.proofs.put_triplet.Statement.{statement}

@@ -1,21 +1,12 @@
--- The law of one byte. Assumes nothing.
-use native.Mathlib.Omega.{arith}
+-- The law of one byte, and of a byte for which there is no room. Assumes nothing.
+use mathlib.Core.List.{[], _∷_}
 use borrow.Author.Needs.{needs}
-use Rattle.writing.proofs.Writing.{writes-byte}
+use Rattle.writing.proofs.Writing.{writes-byte, writes-full}
 use Rattle.writing.proofs.put.Statement.{statement}
 use Rattle.writing.proofs.put.Tie as tie
 
-slice-write-out : tie.Need-slice-write-out
-slice-write-out c = search needs
-
-add-result : tie.Need-add-result
-add-result c = search needs
-
-same-length : tie.Need-same-length
-same-length c = search needs
-
-returns : tie.Need-returns
-returns c = writes-byte (c .args .out .now) (c .args .at) (c .args .b) (omega (arith, c .pre))
-
 pub put-spec : {M : Type 1} → statement M
-put-spec = tie.close (tie.spec slice-write-out add-result same-length returns)
+put-spec = tie.close (tie.spec
+    (λ c. search needs) (λ c. search needs) (λ c. search needs)
+    (λ c. writes-byte (c .before .args .out .now) (c .before .args .at) (c .before .args .b) (c .if1 .taken))
+    (λ c. writes-full (c .before .args .out .now) (c .before .args .at) (c .before .args .b ∷ []) (c .if1 .left)))

@@ -25,7 +25,8 @@ use Rattle.growing.proofs.grow.Kinds as grow-kinds
 use Rattle.growing.proofs.+grow.Lts-grow as grow-lts
 use Rattle.growing.proofs.lift.Reads as lift-reads
 use Rattle.growing.proofs.spread.Reads as spread-reads
-use Rattle.bodies.proofs.put_node.Reads as put-node-reads
+use Rattle.bodies.proofs.put_inner.Reads as put-inner-reads
+use Rattle.bodies.proofs.put_leaf.Reads as put-leaf-reads
 use Rattle.splitting.proofs.split.Reads as split-reads
 use Rattle.sets.proofs.lowest.Reads as lowest-reads
 use Rattle.sets.proofs.size.Reads as size-reads
@@ -45,12 +46,14 @@ calls t = (
   size-reads.Learnt,
   lowest-reads.Asked,
   lowest-reads.Learnt,
-  put-node-reads.Asked,
-  put-node-reads.Learnt,
+  put-leaf-reads.Asked,
+  put-leaf-reads.Learnt,
   split-reads.Asked,
   split-reads.Learnt,
   spread-reads.Asked,
   spread-reads.Learnt,
+  put-inner-reads.Asked,
+  put-inner-reads.Learnt,
   lift-reads.Asked,
   lift-reads.Learnt,
   grow-below t,
@@ -123,7 +126,7 @@ module _ {k : ℕ} where
   read c = getD (c .before .loop .waiting) (gap (inside c) + c .before .loop .k) 0
 
   pub going : (c : At grow-lts.In-loop k)
-      → Turn (begun (inside c) .args .veto) (entered (begun (inside c) .args .t .now)) (begun (inside c) .args .s) (begun (inside c) .args .at) (moved c .before .before .before .before .put-node2 .last .0)
+      → Turn (begun (inside c) .args .veto) (entered (begun (inside c) .args .t .now)) (begun (inside c) .args .s) (begun (inside c) .args .at) (moved c .before .before .before .before .put-inner .last .0)
       (c .before .loop .k) (c .before .loop .next) (c .before .loop .room) (read c)
   going c = record {
     splits = splits (inside c);

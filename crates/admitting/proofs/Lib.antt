@@ -1,0 +1,2 @@
+-- The laws of what either build takes.
+pub mod Chosen

@@ -1,0 +1,2 @@
+-- Laws of the highest species.
+pub mod Bounds

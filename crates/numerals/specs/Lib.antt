@@ -1,0 +1,2 @@
+-- Blanks, digits, numbers and lengths of a Newick text: definitions only. What is proved of them stands in `proofs/`.
+pub mod Goes

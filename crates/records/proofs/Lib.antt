@@ -1,0 +1,4 @@
+-- The laws of a list of records.
+pub mod Records
+pub mod Filling
+pub mod Gathering

@@ -1,0 +1,3 @@
+-- The laws of refusals and replies.
+pub mod Numbers
+pub mod Replying

@@ -1,3 +1,0 @@
--- Answers as plain numbers: definitions only.
-pub mod Plain
-pub mod Replied

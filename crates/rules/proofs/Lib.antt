@@ -1,0 +1,2 @@
+-- The laws of the rules of a body.
+pub mod Rules

@@ -1,0 +1,3 @@
+-- Laws of reading subtrees, and a whole text.
+pub mod Subtrees
+pub mod Wholes

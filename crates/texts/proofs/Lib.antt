@@ -1,0 +1,2 @@
+-- Laws of the texts of an input.
+pub mod Texts

@@ -1,0 +1,2 @@
+-- The texts of an input: definitions only. What is proved of them stands in `proofs/`.
+pub mod Texts
