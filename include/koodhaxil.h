@@ -19,7 +19,7 @@
  *
  * A table has C(n,3) bytes, one for each triple a < b < c, at the place KOODHAXIL_INDEX(a, b, c). In it 1 stands for ab|c, 2 for ac|b and 4 for
  * bc|a, and 8 for a fan, added together; 0 says nothing. Listing sets 8 where some tree has all three species and leaves them as a fan; entering never
- * does. Both builds, the check and loosening read 1, 2 and 4 alone.
+ * does. Both builds, the check and loosening go by 1, 2 and 4 alone; refusals 8 and 16 read the whole byte, and 11 returns it.
  *
  * A set of species is a uint64_t: bit i stands for species i. A species occurs in a collection where some tree has it, in a triplet or not; in records
  * where some record has it.
@@ -47,7 +47,8 @@
  * - What is lent for writing (a pointer that is not const) overlaps nothing else that is handed to the same call. What is only read may overlap.
  * - No other thread writes what is lent, or reads what is lent for writing, before the call returns. Calls that share no such memory may run at the
  *   same time.
- * - There is stack: on x86-64 some 107 KiB for loosening, 98 for checking, 34 for listing, 15 for either build, and below 11 for the others.
+ * - There is stack: on x86-64 some 107 KiB for loosening, 98 for checking, 35 for listing, 15 for either build, and below 11 for the others. In a thread
+ *   the C library takes a part of the stack for itself, with glibc some 4 KiB: a build dies on a thread's stack of 16 KiB, and runs on one of 20.
  *
  *
  * WHAT A FUNCTION ANSWERS
@@ -162,7 +163,7 @@ typedef char koodhaxil_triplet_has_3_bytes[sizeof(koodhaxil_triplet) == 3 ? 1 : 
 size_t koodhaxil_read(const uint8_t *collection, size_t collection_length, size_t *values, size_t values_length);
 
 /*
- * Lists a collection: the table says exactly the triplets that at least one of its trees holds.
+ * Lists a collection: the table says exactly the triplets that at least one of its trees holds, and has 8 exactly where one has the three as a fan.
  * Refusals: those of reading, then 7.
  */
 size_t koodhaxil_list(const uint8_t *collection, size_t collection_length, uint8_t *table, size_t table_length, size_t *values,

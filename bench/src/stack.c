@@ -1,9 +1,10 @@
 /*
- * Builds the tree of 64 nested species, the deepest there is, on a stack of so many bytes: stack [BYTES]. Behind the stack's end lies memory that
- * nothing may touch, so that a build that needs more dies. Prints how many bytes the build touches where there are plenty. Exit 1 where it dies on
- * BYTES, or the tree is another one, or the triples looked at are not the most that there can be.
+ * Builds the tree of 64 nested species, the deepest there is, on a stack of so many bytes: stack [BYTES]; and in a thread whose stack has so many:
+ * stack BYTES thread. Behind the stack's end lies memory that nothing may touch, so that a build that needs more dies. Prints how many bytes the build
+ * touches where there are plenty. Exit 1 where it dies on BYTES, or the tree is another one, or the triples looked at are not the most that there can be.
  */
 #define _GNU_SOURCE
+#include <pthread.h>
 #include <stdio.h>
 #include <stdlib.h>
 #include <string.h>
@@ -64,7 +65,14 @@ static void build_on(uint8_t *stack, size_t bytes)
     if (swapcontext(&here, &there) != 0) stop("swapcontext");
 }
 
-/* Builds on a stack of so many bytes, and ends the process: with 0 for the right tree. Says how many of them were touched, where that is asked. */
+/* Ends the process: with 0 for the right tree. */
+static void end(void)
+{
+    fflush(stdout);
+    _exit(number == KOODHAXIL_DONE && values[0] == 2 * N - 1 && values[1] == KOODHAXIL_MOST_LOOKED && memcmp(room, wanted, sizeof room) == 0 ? 0 : 1);
+}
+
+/* Builds on a stack of so many bytes, and ends the process. Says how many of them were touched, where that is asked. */
 static void on_stack(size_t bytes, int say)
 {
     uint8_t *memory = mmap(NULL, FORBIDDEN + bytes, PROT_NONE, MAP_PRIVATE | MAP_ANONYMOUS, -1, 0), *stack;
@@ -77,12 +85,31 @@ static void on_stack(size_t bytes, int say)
     build_on(stack, bytes);
     for (low = 0; low < bytes && stack[low] == UNTOUCHED; low++);
     if (say) printf("stack: building 64 nested species touches %zu bytes\n", bytes - low);
-    fflush(stdout);
-    _exit(number == KOODHAXIL_DONE && values[0] == 2 * N - 1 && values[1] == KOODHAXIL_MOST_LOOKED && memcmp(room, wanted, sizeof room) == 0 ? 0 : 1);
+    end();
 }
 
-/* The same in a process of its own. Returns how that ended. */
-static int apart(size_t bytes, int say)
+static void *build_there(void *nothing)
+{
+    build();
+    return nothing;
+}
+
+/* Builds in a thread with a stack of so many bytes, of which the C library has its part, and ends the process. */
+static void in_thread(size_t bytes)
+{
+    pthread_attr_t form;
+    pthread_t thread;
+
+    if (pthread_attr_init(&form) != 0 || pthread_attr_setstacksize(&form, bytes) != 0 || pthread_create(&thread, &form, build_there, NULL) != 0 ||
+        pthread_join(thread, NULL) != 0) {
+        fprintf(stderr, "stack: no thread with a stack of %zu bytes\n", bytes);
+        _exit(2);
+    }
+    end();
+}
+
+/* One of the two in a process of its own. Returns how that ended. */
+static int apart(size_t bytes, int say, int thread)
 {
     int status;
     pid_t child;
@@ -90,6 +117,7 @@ static int apart(size_t bytes, int say)
     fflush(stdout);
     child = fork();
     if (child == -1) stop("fork");
+    if (child == 0 && thread) in_thread(bytes);
     if (child == 0) on_stack(bytes, say);
     if (waitpid(child, &status, 0) == -1) stop("waitpid");
     return status;
@@ -98,23 +126,24 @@ static int apart(size_t bytes, int say)
 int main(int count, char **words)
 {
     size_t bytes = count > 1 ? strtoul(words[1], NULL, 10) : 32768;
-    int status;
+    int status, thread = count == 3 && strcmp(words[2], "thread") == 0;
+    const char *where = thread ? "in a thread with " : "on ";
 
-    if (count > 2 || bytes == 0) {
-        fprintf(stderr, "usage: stack [BYTES]\n");
+    if (count > 2 + thread || bytes == 0) {
+        fprintf(stderr, "usage: stack [BYTES [thread]]\n");
         return 2;
     }
     nested();
     build(); /* where functions of the C library are found at their first call, this is it */
-    if (apart(PLENTY, 1) != 0) {
+    if (apart(PLENTY, 1, 0) != 0) {
         printf("stack: it does NOT give the right tree\n");
         return 1;
     }
-    status = apart(bytes, 0);
+    status = apart(bytes, 0, thread);
     if (status != 0) {
-        printf("stack: on %zu bytes it %s\n", bytes, WIFSIGNALED(status) ? "DIES" : "does NOT give the right tree");
+        printf("stack: %s%zu bytes it %s\n", where, bytes, WIFSIGNALED(status) ? "DIES" : "does NOT give the right tree");
         return 1;
     }
-    printf("stack: on %zu bytes it gives the right tree\n", bytes);
+    printf("stack: %s%zu bytes it gives the right tree\n", where, bytes);
     return 0;
 }

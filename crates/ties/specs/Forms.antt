@@ -6,6 +6,7 @@ use mathlib.Core.Logic.{_⊎_}
 use mathlib.Core.Path.{_≡_}
 use Prim.Native.Nat.{ℕ, _≤_}
 use lib.ListN.{replicate, take}
+use Rattle.contracts.specs.Contracts.{After}
 use Rattle.sets.specs.Sets.{has}
 use Rattle.trees.specs.Held.{CanBeHeld}
 use Rattle.tables.specs.Bytes.{entered}
@@ -20,7 +21,6 @@ use Rattle.shelf_text.specs.Shelf.{build-word, check-word, read-word}
 use Rattle.shelf_text.specs.Texts.{line, numbers}
 use Rattle.promises.specs.Operations.{Given, Operations}
 use Rattle.promises.specs.Demand2.{Keeps, Shows, SomeTreeHas, front}
-use Rattle.ties.specs.Tied.{After}
 
 -- ---- the values that are returned with a number, by their names
 

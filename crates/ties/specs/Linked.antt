@@ -2,6 +2,7 @@
 -- demands say; the lines of `trial` are those answers as text.
 use mathlib.Core.List.{List, _++_, map}
 use mathlib.Core.Path.{_≡_}
+use Rattle.contracts.specs.Contracts.{After}
 use Rattle.writing.specs.Texts.{ended}
 use Rattle.writing.specs.Writes.{Writes}
 use Rattle.table_lines.proofs.build_line as build-line
@@ -30,7 +31,6 @@ use Rattle.triplets.specs.Spelled.{spelled}
 use Rattle.laying.specs.Codes.{Handed}
 use Rattle.easing.specs.Eases.{lent}
 use Rattle.promises.specs.Operations.{Given, GivenOf, Operations}
-use Rattle.ties.specs.Tied.{After}
 use Prim.Native.Nat.{ℕ}
 
 -- a C function was lent memory, which is o now, and `values`, which were vs and are vs′ now; its result is r

@@ -1,0 +1,1 @@
+// Definitions only: what a contract says of any call.
