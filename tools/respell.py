@@ -57,7 +57,7 @@ def read(path):
 
 
 def plain(name):
-    return re.sub(r"(?<=[a-z0-9])([A-Z])", lambda m: "_" + m[1].lower(), name)
+    return re.sub(r"(?<=[a-z0-9])([A-Z]+)", lambda m: "_" + m[1].lower(), name)
 
 
 def declared():

@@ -1,4 +1,6 @@
 // What either build takes: a table and a set of its species, of no others, and room enough.
+#![tactic(auto)]
+
 ghost use Rattle.std.specs.Prelude.{◌≡◌, ◌≤◌};
 ghost use Rattle.answers.specs.Looks.{first_refusal};
 ghost use Rattle.admitting.specs.GoodSet.{bad_set, input_looks};

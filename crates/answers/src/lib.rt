@@ -1,17 +1,19 @@
 // The looks at what is handed in that several operations share.
+#![tactic(auto)]
+
 ghost use Rattle.std.specs.Prelude.{◌≡◌, [], ◌∷◌, length};
 ghost use Rattle.answers.specs.Looks.{first_refusal, look_then, wrong_count, look_count, look_table, look_bytes, look_length, look_rules};
 
 use refusals::Refusal;
 
 // What was written to the front of a room: "order and build: node count".
-#[derive(Drop)]
+#[derive(Clone, Copy)]
 pub struct Written {
     pub nodes: usize,
 }
 
 // A look at what is handed in.
-#[derive(Drop)]
+#[derive(Clone, Copy)]
 pub enum Look {
     Pass,
     Refuse(Refusal),

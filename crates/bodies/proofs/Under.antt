@@ -98,9 +98,12 @@ under_child v i c j h (down {p = p} k u) = down k (under_child v i c p h u)
 
 -- of two nodes over one node, one is under the other
 pub meet-under : (v : Nodes) (j c d : ℕ) → Under v c j → Under v d j → Under v c d ⊎ Under v d c
-meet-under v j c d here w = inr w
-meet-under v j c d (down h u) here = inl (down h u)
-meet-under v j c d (down {p = p} h u) (down {p = q} k w) = meet-under v p c d u (subst (λ (z : ℕ). Under v d z) (sym k.parent ∙ h.parent) w)
+meet-under v j c d u w = met v c d j u w
+  where
+    met : (v : Nodes) (c d j : ℕ) → Under v c j → Under v d j → Under v c d ⊎ Under v d c
+    met v c d j here w = inr w
+    met v c d j (down h u) here = inl (down h u)
+    met v c d j (down {p = p} h u) (down {p = q} k w) = met v c d p u (subst (λ (z : ℕ). Under v d z) (sym k.parent ∙ h.parent) w)
 
 -- a leaf under i with species x
 pub record Leaf (v : Nodes) (i x : ℕ) : Type 0 where

@@ -1,4 +1,6 @@
 // The bytes of a tree's body: its nodes, what a broken rule is told as, and writing nodes.
+#![tactic(auto)]
+
 ghost use Rattle.std.specs.Prelude.{◌≡◌, suc, ◌*◌, ◌<◌, ◌≤◌, length, take};
 ghost use Rattle.std.proofs.lemmas.List.Edits.{sets};
 ghost use Rattle.bodies.specs.Nodes.{nodes, node_at', width, most_nodes, body_length, bad_length, room_for, leaf_bytes, inner_bytes, under_bytes};
@@ -16,14 +18,14 @@ pub const LONGEST: usize = WIDTH * MOST_NODES;
 pub const NONE: u8 = 255;
 
 // A node of a body, wherever its bytes stand.
-#[derive(Drop)]
+#[derive(Clone, Copy)]
 pub struct Node {
     pub parent: u8,
     pub species: u8,
 }
 
 // The rule that a node breaks, with what document 01 returns of it.
-#[derive(Drop)]
+#[derive(Clone, Copy)]
 pub enum Fault {
     BadParent(u8),
     BadSpecies(u8),
@@ -32,14 +34,14 @@ pub enum Fault {
 }
 
 // The first rule that is broken: in which tree, at which node, and which one.
-#[derive(Drop)]
+#[derive(Clone, Copy)]
 pub struct Broken {
     pub tree: usize,
     pub node: usize,
     pub fault: Fault,
 }
 
-#[derive(Drop)]
+#[derive(Clone, Copy)]
 pub enum Verdict {
     Fine,
     Breaks(Broken),

@@ -1,4 +1,6 @@
 // Building the tree of a set of species that holds every entered triplet, or the set that shows why there is none; and the veto build, which always gives a tree.
+#![tactic(auto)]
+
 ghost use Rattle.std.specs.Prelude.{[], ◌<◌, ◌≤◌, length};
 ghost use Rattle.sets.specs.Sets.{has, size};
 ghost use Rattle.trees.specs.Build.{build_by};
@@ -8,14 +10,14 @@ ghost use Rattle.bodies.specs.Nodes.{room_for};
 ghost use Rattle.building.specs.Builds.{Raises, Builds};
 ghost use Rattle.building.specs.Vetoes.{Vetoes};
 
-#[derive(Drop)]
+#[derive(Clone, Copy)]
 pub enum Answer {
     Done(answers::Written),
     Refused(refusals::Refusal),
 }
 
 // An answer, and beside it how many triples were looked at: 0 for every refusal but that of a set that stops.
-#[derive(Drop)]
+#[derive(Clone, Copy)]
 pub struct Counted {
     pub answer: Answer,
     pub looked: usize,

@@ -29,7 +29,7 @@ use Rattle.answers.specs.Inputs.{Body, Count}
 use Rattle.answers.specs.Looks.{first_refusal, look_bytes, look_count, look_length, look_rules, look_table, refuse_if}
 use Rattle.answers.specs.declared.Look.TheVariants.{Pass, Refuse}
 use Rattle.refusals.specs.declared.Refusal.TheVariants.{Contradicted, Unforced}
-use Rattle.checking.specs.Checks.{answer_of, candidate_looks, first_differs, first_unsure, look_pC, triples_looks}
+use Rattle.checking.specs.Checks.{answer_of, candidate_looks, first_differs, first_unsure, look_pc, triples_looks}
 use Rattle.checking.proofs.Passing.{pc_first, pi_first}
 use Rattle.triples.specs.Finds.{Hit}
 use Rattle.checking.specs.declared.Answer.TheVariants.{Passes, Refused}
@@ -44,18 +44,18 @@ module _ (n : ℕ) (t : List ℕ) (T : Tree) (f : So (well_formed T)) (bd : Belo
 
   -- the triple that was found, as the look
   pub is_contradicted : (x : Triple) → Hit n (differs (entered t) T) x → (i v : ℕ) → i ≡ placed x → v ≡ get_or t (placed x) 0
-      → Refuse (Contradicted (record { index = i; byte = v })) ≡ look_pC n t T
+      → Refuse (Contradicted (record { index = i; byte = v })) ≡ look_pc n t T
   unfolding first_differs
   is_contradicted x h i v ei ev =
       let l = index-lt x.low x.mid x.high n h.low_mid h.mid_high h.high_below in
       ap₂ (λ (j w : ℕ). Refuse (Contradicted (record { index = j; byte = w }))) ei ev ∙ sym (rw (h.is, lt-ltb (placed x) (C n 3) l) refl)
 
-  pub is_agreed : Find.first_triple n (differs (entered t) T) ≡ C n 3 → Pass ≡ look_pC n t T
+  pub is_agreed : Find.first_triple n (differs (entered t) T) ≡ C n 3 → Pass ≡ look_pc n t T
   unfolding first_differs
   is_agreed e = sym (rw (e, le-ltb (C n 3) (C n 3) (omega arith)) refl)
 
   -- nothing differs
-  module _ (none : look_pC n t T ≡ Pass) where
+  module _ (none : look_pc n t T ≡ Pass) where
     pub agreed : PC (entered t) (below n) T
     agreed = (pc_first n t T f inside).1 (ltb-false (first_differs n t T) (C n 3) (pass_false _ _ none))
 

@@ -23,15 +23,15 @@ module _ (n : ℕ) (t : List ℕ) where
   first_unsure T = first_triple n (unsure (entered t) n T)
 
   -- 11: "PC fails", with "triple index, table byte"
-  abbrev pub look_pC : Tree → Look
-  look_pC T = refuse_if (ltb (first_differs T) (C n 3)) (Contradicted (record { index = first_differs T; byte = get_or t (first_differs T) 0 }))
+  abbrev pub look_pc : Tree → Look
+  look_pc T = refuse_if (ltb (first_differs T) (C n 3)) (Contradicted (record { index = first_differs T; byte = get_or t (first_differs T) 0 }))
 
   -- 12: "PI fails", with "triple index"
-  abbrev pub look_pI : Tree → Look
-  look_pI T = refuse_if (ltb (first_unsure T) (C n 3)) (Unforced (first_unsure T))
+  abbrev pub look_pi : Tree → Look
+  look_pi T = refuse_if (ltb (first_unsure T) (C n 3)) (Unforced (first_unsure T))
 
   abbrev pub triples_looks : Tree → List Look
-  triples_looks T = look_pC T ∷ look_pI T ∷ []
+  triples_looks T = look_pc T ∷ look_pi T ∷ []
 
   -- "Check: 2, 7, 8, 5, 6, 11, 12", for the body b; "The tree number is 0 where there is only one body"
   abbrev pub candidate_looks : List ℕ → List Look

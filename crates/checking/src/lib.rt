@@ -1,13 +1,15 @@
 // Checking a tree against a table: it passes exactly when no entered triplet contradicts it, and each of its own triplets is forced.
+#![tactic(auto)]
+
 ghost use Rattle.std.specs.Prelude.{◌≡◌, false, ◌≤◌, length};
 ghost use Rattle.bodies.specs.Draws.{tree_of};
 ghost use Rattle.bodies.specs.Nodes.{Good, nodes, bad_length};
 ghost use Rattle.trees.specs.Trees.{Tree};
 ghost use Rattle.groups.specs.Groups.{Candidate};
 ghost use Rattle.answers.specs.Looks.{first_refusal};
-ghost use Rattle.checking.specs.Checks.{answer_of, candidate_looks, look_pC, triples_looks, check_answer};
+ghost use Rattle.checking.specs.Checks.{answer_of, candidate_looks, look_pc, triples_looks, check_answer};
 
-#[derive(Drop)]
+#[derive(Clone, Copy)]
 pub enum Answer {
     Passes,
     Refused(refusals::Refusal),
@@ -23,7 +25,7 @@ pub fn look_candidate(n: usize, t: &[u8], body: &[u8]) -> answers::Look
 // PC of a candidate, by its species and its smallest common groups: 11 with the first triple that contradicts it.
 pub fn look_pc(n: usize, t: &[u8], whole: u64, meets: &[u64; groups::CELLS]) -> answers::Look
     requires { (n ≤ 64) × ((T : Tree) × Candidate n T whole meets.now) }
-    ensures { (T : Tree) → Candidate n T whole meets.now → result ≡ look_pC n t.now T }
+    ensures { (T : Tree) → Candidate n T whole meets.now → result ≡ look_pc n t.now T }
 {
     let differs = pc::first_contradiction(n, t, whole, meets);
     match differs {

@@ -1,4 +1,6 @@
 // The children of a node in house order, one by one: the lowest species that is left shows the next child.
+#![tactic(auto)]
+
 ghost use Rattle.std.specs.Prelude.{◌<◌, ◌≤◌};
 ghost use Rattle.bodies.specs.Nodes.{nodes, most_nodes};
 ghost use Rattle.children.specs.Children.{FindsChild};

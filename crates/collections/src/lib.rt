@@ -1,4 +1,6 @@
 // Reading a collection: its header, the lengths, and each tree's body.
+#![tactic(auto)]
+
 ghost use Rattle.std.specs.Prelude.{◌≡◌, ℕ, suc, ◌+◌, ◌<◌, ◌≤◌, ◌||◌, false, eqb, ltb, length};
 ghost use Rattle.bodies.specs.Draws.{tree_of};
 ghost use Rattle.bodies.specs.Nodes.{Good, bad_length, nodes};
@@ -10,21 +12,21 @@ ghost use Rattle.collections.specs.Reads.{next_of, answer_from, read_answer};
 pub const LONGEST: usize = 3 + 16 * (2 + bodies::LONGEST);
 
 // What a good collection has; of the species, the set that occurs.
-#[derive(Drop)]
+#[derive(Clone, Copy)]
 pub struct Counts {
     pub n: usize,
     pub trees: usize,
     pub set: u64,
 }
 
-#[derive(Drop)]
+#[derive(Clone, Copy)]
 pub enum Answer {
     Done(Counts),
     Refused(refusals::Refusal),
 }
 
 // Where a tree's body stands: from start up to, and not with, end.
-#[derive(Drop)]
+#[derive(Clone, Copy)]
 pub struct Span {
     pub start: usize,
     pub end: usize,
@@ -62,7 +64,7 @@ pub fn body_span(b: &[u8], k: usize) -> Span
 }
 
 // After one tree: where the next one starts, or the refusal.
-#[derive(Drop)]
+#[derive(Clone, Copy)]
 enum Next {
     At(usize),
     Stop(refusals::Refusal),

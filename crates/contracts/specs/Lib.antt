@@ -1,2 +1,2 @@
 -- Contracts, as the kit has them of the source: definitions only.
-pub mod Contracts
+pub mod AnyCall

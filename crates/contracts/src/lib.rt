@@ -1,1 +1,2 @@
 // Definitions only: what a contract says of any call.
+#![tactic(auto)]

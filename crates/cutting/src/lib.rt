@@ -1,4 +1,6 @@
 // A paper's tree cut to a set of species, as Newick text in the order of the paper's own line.
+#![tactic(auto)]
+
 ghost use Rattle.std.specs.Prelude.{[], ◌∷◌, ◌++◌, ◌<◌, ◌≤◌};
 ghost use Rattle.sets.specs.Sets.{has};
 ghost use Rattle.trees.specs.Cut.{Touches};

@@ -1,4 +1,6 @@
 // A node of a body is dropped: its children go to its parent, and what is left is put in house order.
+#![tactic(auto)]
+
 ghost use Rattle.std.specs.Prelude.{◌≡◌, ℕ, ◌-◌, ◌<◌, ◌≤◌, length, take};
 ghost use Rattle.bodies.specs.Nodes.{body_length, longest, most_nodes, nodes, none};
 ghost use Rattle.dropping.specs.Drafts.{HouseDraft, NodeDropped};

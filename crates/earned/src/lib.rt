@@ -1,4 +1,6 @@
 // Earned groups: is each group of a tree but the root's joined by the links on it and any one sibling group?
+#![tactic(auto)]
+
 ghost use Rattle.std.specs.Prelude.{◌≡◌, true, ◌↔◌, ◌<◌, ◌≤◌};
 ghost use Rattle.trees.specs.Check.{Earned};
 ghost use Rattle.trees.specs.Triplets.{Triplets, Proper};

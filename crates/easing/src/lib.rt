@@ -12,14 +12,14 @@ ghost use Rattle.easing.specs.Eases.{eased, laid_out, lent, tally};
 ghost use Rattle.easing.specs.Turns.{FindsUnearned, Turned};
 
 // How many nodes the final tree has, and how many sets were dropped.
-#[derive(Drop)]
+#[derive(Clone, Copy)]
 pub struct Tally {
     pub nodes: usize,
     pub dropped: usize,
 }
 
 // A node whose group is not earned, and the group; node 0 where each is earned.
-#[derive(Drop)]
+#[derive(Clone, Copy)]
 struct Unearned {
     node: usize,
     group: u64,

@@ -1,16 +1,18 @@
 // Entering a list of triplets into a table: refusals 2, 7 and 13, in that order, before any byte is written.
+#![tactic(auto)]
+
 ghost use Rattle.std.specs.Prelude.{◌≡◌, length};
 ghost use Rattle.entering.specs.Enters.{decided, Enters};
 ghost use Rattle.entering.specs.Passes.{cleared};
 
 // What is returned with 0: of the species, the set that occurs.
-#[derive(Drop)]
+#[derive(Clone, Copy)]
 pub struct Entry {
     pub n: usize,
     pub set: u64,
 }
 
-#[derive(Drop)]
+#[derive(Clone, Copy)]
 pub enum Answer {
     Done(Entry),
     Refused(refusals::Refusal),

@@ -1,6 +1,6 @@
 -- No C function asks anything of its caller: "Every byte string and every number may be handed in." Assumes nothing.
 use base.Logic.{emp, id⊢}
-use Rattle.contracts.specs.Contracts.{AsksNothing}
+use Rattle.contracts.specs.AnyCall.{AsksNothing}
 use Rattle.exports.specs.contracts.koodhaxil_read as c_read
 use Rattle.exports.specs.contracts.koodhaxil_list as c-list
 use Rattle.exports.specs.contracts.koodhaxil_enter as c_enter

@@ -1,4 +1,6 @@
 // The groups of a good body, the smallest common group of each two species, and what its tree says of three species.
+#![tactic(auto)]
+
 ghost use Rattle.std.specs.Prelude.{◌≡◌, cond, not, ◌&&◌, ◌<◌, ◌≤◌, eqb, ltb, length, replicate};
 ghost use Rattle.std.proofs.Math.Bool.{So};
 ghost use Rattle.sets.specs.Sets.{has, single};
@@ -9,7 +11,7 @@ ghost use Rattle.bodies.specs.Draws.{tree_of};
 ghost use Rattle.groups.specs.Groups.{set_of, Groups, cells, cell, Stamped, Meets, Drawn, says};
 
 // What a tree says of three species a, b and c: ab|c, ac|b or bc|a; that they are a fan; or that not all of them are here.
-#[derive(Drop)]
+#[derive(Clone, Copy)]
 pub enum Says {
     AB,
     AC,

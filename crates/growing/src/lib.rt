@@ -1,4 +1,6 @@
 // The recursive build of one set of species into a draft: the plain build and the veto build.
+#![tactic(auto)]
+
 ghost use Rattle.std.specs.Prelude.{◌≡◌, true, ◌+◌, ◌*◌, ◌<◌, ◌≤◌, length};
 ghost use Rattle.std.proofs.Math.Seq.{paste};
 ghost use Rattle.sets.specs.Sets.{has, size};
@@ -10,7 +12,7 @@ ghost use Rattle.growing.specs.Grows.{Grows, Stands, branch_looked};
 ghost use Rattle.growing.specs.Waiting.{SameFrom};
 
 // The next node's number, or the set that stops; and how many triples were looked at.
-#[derive(Drop)]
+#[derive(Clone, Copy)]
 pub enum Branch {
     Next(usize, usize),
     Stopped(u64, usize),

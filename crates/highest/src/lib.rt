@@ -1,4 +1,6 @@
 // The number of species of some bodies: one more than the highest species.
+#![tactic(auto)]
+
 ghost use Rattle.std.specs.Prelude.{◌≡◌, max};
 ghost use Rattle.highest.specs.Bound.{one_more', top_of};
 

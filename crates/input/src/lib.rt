@@ -1,17 +1,21 @@
 // What has come of standard input, byte after byte.
+#![tactic(auto)]
+
 ghost use Rattle.std.specs.Prelude.{◌≡◌, true, false, [], ◌∷◌, ◌≤◌, length, take};
 ghost use Rattle.input.specs.Inputs.{InBuffer, Took};
 
+use std::io::{Read, Stdin};
+
 // The bytes of the buffer from `at` up to `end` are still to be read, and then what is still to come. `whole` says that all that was asked for up to here was
 // there; once it was not, nothing more is read.
-#[derive(Drop)]
+#[derive(Clone, Copy)]
 pub struct Input {
     pub at: usize,
     pub end: usize,
     pub whole: bool,
 }
 
-#[derive(Drop)]
+#[derive(Clone, Copy)]
 pub struct Byte {
     pub value: u8,
     pub left: Input,
@@ -40,15 +44,18 @@ pub fn cut() -> Input
 }
 
 // Reads what has come of the input, and waits only where nothing has: how many bytes stand in the buffer now; 0 where the input has ended.
-fn refill(buffer: &mut [u8]) -> usize
+fn refill(stdin: Stdin, buffer: &mut [u8]) -> usize
     ensures { (result ≤ length buffer.new) × (length buffer.new ≡ length buffer.old) }
 {
-    let got = libc::read(0, buffer);
-    io::count(got, buffer)
+    let mut stdin = stdin;
+    match stdin.read(buffer) {
+        Ok(came) => came,
+        Err(_) => 0,
+    }
 }
 
 // Reads a byte; where the buffer is used up, it is read anew.
-pub fn next(buffer: &mut [u8], from: Input) -> Byte
+pub fn next(stdin: Stdin, buffer: &mut [u8], from: Input) -> Byte
     requires { InBuffer from buffer.old }
     ensures { Took from buffer.old (result.value ∷ []) result.left buffer.new }
 {
@@ -70,7 +77,7 @@ pub fn next(buffer: &mut [u8], from: Input) -> Byte
             left: cut(),
         };
     }
-    let came = refill(buffer);
+    let came = refill(stdin, buffer);
     if came == 0 {
         return Byte {
             value: 0,
@@ -88,14 +95,14 @@ pub fn next(buffer: &mut [u8], from: Input) -> Byte
 }
 
 // Reads n bytes to the front of `to`.
-pub fn fetch(buffer: &mut [u8], from: Input, to: &mut [u8], n: usize) -> Input
+pub fn fetch(stdin: Stdin, buffer: &mut [u8], from: Input, to: &mut [u8], n: usize) -> Input
     requires { InBuffer from buffer.old × (n ≤ length to.old) }
     ensures { Took from buffer.old (take n to.new) result buffer.new }
 {
     let mut left = from;
     let mut i = 0;
     while i < n {
-        let b = next(buffer, left);
+        let b = next(stdin, buffer, left);
         to[i] = b.value;
         left = b.left;
         i += 1;

@@ -1,10 +1,12 @@
 // A reply laid into lent numbers: its values one after the other, as far as there is room.
+#![tactic(auto)]
+
 ghost use Rattle.std.specs.Prelude.{◌≡◌, [], ◌∷◌, ◌++◌, set};
 ghost use Rattle.refusals.specs.Replies.{values_of};
 ghost use Rattle.laying.specs.Codes.{fault_code, rule_code, Lays};
 
 // A fault by two numbers.
-#[derive(Drop)]
+#[derive(Clone, Copy)]
 struct FaultCode {
     kind: usize,
     data: usize,

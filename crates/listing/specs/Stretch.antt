@@ -2,7 +2,7 @@
 use Rattle.std.specs.Prelude.{◌≡◌, List, ℕ, length}
 use Rattle.trees.specs.Trees.{Tree}
 use Rattle.tables.specs.Adds.{Adds}
-use Rattle.tables.specs.Bytes.{sign_aB, sign_aC, sign_bC, sign_fan}
+use Rattle.tables.specs.Bytes.{sign_ab, sign_ac, sign_bc, sign_fan}
 use Rattle.tables.specs.Filled.{tree_byte}
 use Rattle.groups.specs.Groups.{Drawn}
 use Rattle.groups.specs.declared.Says.{Says}
@@ -15,8 +15,8 @@ pub record Stretch (whole : ℕ) (meets : List ℕ) (lo hi : ℕ) (t t' : List �
 
 -- the bits of what a tree says of a triple
 abbrev pub says_byte : Says → ℕ
-says_byte AB = sign_aB
-says_byte AC = sign_aC
-says_byte BC = sign_bC
+says_byte AB = sign_ab
+says_byte AC = sign_ac
+says_byte BC = sign_bc
 says_byte Fan = sign_fan
 says_byte Absent = 0

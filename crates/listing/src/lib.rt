@@ -1,4 +1,6 @@
 // Listing a collection: what its trees say of every triple goes into the table.
+#![tactic(auto)]
+
 ghost use Rattle.std.specs.Prelude.{◌≡◌, false, suc, ◌+◌, ◌<◌, ◌≤◌, length};
 ghost use Rattle.tables.specs.Adds.{Adds};
 ghost use Rattle.tables.specs.Filled.{tree_byte};

@@ -5,7 +5,7 @@ use Rattle.refusals.specs.Told.{Told, Value, dropped_count, number_of_nodes, tol
 use Rattle.answers.specs.Looks.{Settled, after, answered, first_refusal, look_room}
 use Rattle.refusals.specs.Refusals.{refusal_told}
 use Rattle.answers.specs.declared.Look.{Look}
-use Rattle.checking.specs.Checks.{candidate_looks, look_pC}
+use Rattle.checking.specs.Checks.{candidate_looks, look_pc}
 use Rattle.easing.specs.Eases.{Lent, eased, laid_out, tally}
 use Rattle.easing.specs.declared.Tally.{Tally}
 use Rattle.loosening.specs.declared.Answer.{Answer}
@@ -14,7 +14,7 @@ use Rattle.loosening.specs.declared.Answer.TheVariants.{Done, Refused}
 -- "Refusals: 2, 7, 8, 5, 6, then 11 as in the check, then 9 where the tree room is shorter than the candidate's body or the lent list has under 62 places", for a
 -- room of l bytes and a list of k places
 abbrev pub late_looks : ℕ → List ℕ → List ℕ → ℕ → ℕ → List Look
-late_looks n t b l k = look_pC n t (tree_of b) ∷ look_room (length b) l ∷ look_room 62 k ∷ []
+late_looks n t b l k = look_pc n t (tree_of b) ∷ look_room (length b) l ∷ look_room 62 k ∷ []
 
 abbrev pub loosen_looks : ℕ → List ℕ → List ℕ → ℕ → ℕ → List Look
 loosen_looks n t b l k = candidate_looks n t b ++ late_looks n t b l k

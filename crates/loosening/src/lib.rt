@@ -7,7 +7,7 @@ ghost use Rattle.loosening.specs.Loosens.{Loosens, Settles};
 // The most sets that are dropped: a tree of 64 species has no more groups of two species or more, the root's aside.
 pub const MOST_DROPPED: usize = 62;
 
-#[derive(Drop)]
+#[derive(Clone, Copy)]
 pub enum Answer {
     Done(easing::Tally),
     Refused(refusals::Refusal),

@@ -1,4 +1,6 @@
 // The entered triplets on the triples that a tree resolves, and their links on a set.
+#![tactic(auto)]
+
 ghost use Rattle.std.specs.Prelude.{◌≡◌, true, ◌&&◌, ◌↔◌, ◌<◌, ◌≤◌, eqb, length, replicate};
 ghost use Rattle.std.proofs.Math.Bool.{So};
 ghost use Rattle.sets.specs.Sets.{has, number};

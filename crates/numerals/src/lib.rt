@@ -1,4 +1,6 @@
 // Blanks, digits, species numbers and branch lengths of a Newick text.
+#![tactic(auto)]
+
 ghost use Rattle.std.specs.Prelude.{◌≡◌, false, ◌-◌, ◌<◌, ◌≤◌, length, get_or};
 ghost use Rattle.std.proofs.Math.Bool.{So};
 ghost use Rattle.newick.specs.Form.{blank, digit};
@@ -8,14 +10,14 @@ ghost use Rattle.numerals.specs.Goes.{PastBlanks, PastDigits, Numbered, Branched
 const LARGEST: usize = 254;
 
 // A species number and the place behind it; or the place that is refused.
-#[derive(Drop)]
+#[derive(Clone, Copy)]
 pub enum Numeral {
     Value(u8, usize),
     None(usize),
 }
 
 // The place behind what was read, and how many nodes there are; or the place that is refused.
-#[derive(Drop)]
+#[derive(Clone, Copy)]
 pub enum Got {
     At(usize, usize),
     Bad(usize),

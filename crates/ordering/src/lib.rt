@@ -1,4 +1,6 @@
 // Putting a tree in house order: nodes in preorder, children by their lowest species.
+#![tactic(auto)]
+
 ghost use Rattle.std.specs.Prelude.{◌≡◌, cond, ◌+◌, ◌*◌, ◌<◌, ◌≤◌, eqb, length};
 ghost use Rattle.std.proofs.lemmas.List.Edits.{sets};
 ghost use Rattle.trees.specs.Trees.{house};
@@ -7,7 +9,7 @@ ghost use Rattle.bodies.specs.Draws.{subtree, node_count, bytes, ordered, writte
 ghost use Rattle.groups.specs.Groups.{Groups};
 ghost use Rattle.ordering.specs.Orders.{Orders};
 
-#[derive(Drop)]
+#[derive(Clone, Copy)]
 pub enum Answer {
     Done(answers::Written),
     Refused(refusals::Refusal),

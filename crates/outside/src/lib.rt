@@ -1,4 +1,6 @@
 // The first triple with a byte that is not 0 and a species outside a set.
+#![tactic(auto)]
+
 ghost use Rattle.std.specs.Prelude.{◌≡◌, ◌<◌, ◌≤◌};
 ghost use Rattle.triples.specs.Finds.{Finds};
 ghost use Rattle.outside.specs.Reaches.{reaches};

@@ -14,7 +14,7 @@ pub const MOST: usize = 16;
 const SPECIES: usize = 64;
 
 // The collection that was read: n, how many trees, and how many bytes.
-#[derive(Drop)]
+#[derive(Clone, Copy)]
 pub struct Found {
     pub n: usize,
     pub trees: usize,
@@ -22,7 +22,7 @@ pub struct Found {
 }
 
 // A text that is refused: its number from 1, where it begins and ends in the input, and why.
-#[derive(Drop)]
+#[derive(Clone, Copy)]
 pub struct Bad {
     pub paper: usize,
     pub start: usize,
@@ -30,7 +30,7 @@ pub struct Bad {
     pub why: refusals::Refusal,
 }
 
-#[derive(Drop)]
+#[derive(Clone, Copy)]
 pub enum Answer {
     Done(Found),
     Long,
@@ -40,7 +40,7 @@ pub enum Answer {
 }
 
 // After one text: where the next body goes, and this body's bound; or the refusal.
-#[derive(Drop)]
+#[derive(Clone, Copy)]
 enum Next {
     At(usize, usize),
     Stop(refusals::Refusal),

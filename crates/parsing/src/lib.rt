@@ -1,4 +1,6 @@
 // Newick text into a body, in the text's order.
+#![tactic(auto)]
+
 ghost use Rattle.std.specs.Prelude.{◌≡◌, length};
 ghost use Rattle.bodies.specs.Nodes.{body_length};
 ghost use Rattle.parsing.specs.Parses.{Parses, Puts};
@@ -6,7 +8,7 @@ ghost use Rattle.parsing.specs.Parses.{Parses, Puts};
 // The longest text.
 const LONGEST: usize = 4096;
 
-#[derive(Drop)]
+#[derive(Clone, Copy)]
 pub enum Answer {
     Done(answers::Written),
     Refused(refusals::Refusal),

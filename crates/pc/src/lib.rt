@@ -1,4 +1,6 @@
 // PC: the first triple on which an entered triplet differs from what a tree says.
+#![tactic(auto)]
+
 ghost use Rattle.std.specs.Prelude.{◌≡◌, ◌≤◌};
 ghost use Rattle.trees.specs.Check.{differs};
 ghost use Rattle.trees.specs.Trees.{Tree};

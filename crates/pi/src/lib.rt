@@ -1,4 +1,6 @@
 // PI where some group is not earned: the first triple whose triplet in the tree is not forced, by cores.
+#![tactic(auto)]
+
 ghost use Rattle.std.specs.Prelude.{◌≡◌, ◌<◌, ◌≤◌, length};
 ghost use Rattle.std.proofs.Math.Bool.{So};
 ghost use Rattle.sets.specs.Sets.{has, Subset};

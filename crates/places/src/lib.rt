@@ -1,4 +1,6 @@
 // Why a Newick text is refused, at which place of it, and at which line and column of the input.
+#![tactic(auto)]
+
 ghost use Rattle.std.specs.Prelude.{◌≡◌, ◌≤◌, length};
 ghost use Rattle.newick.specs.Place.{Spot, node_begins, onward};
 ghost use Rattle.newick.specs.Signs.{sign};
@@ -7,14 +9,14 @@ ghost use Rattle.places.specs.NodePlaces.{fresh_at, node_place, place_in};
 ghost use Rattle.places.specs.Causes.{cause_of};
 
 // A line of the input and a column in it, both counted from 1.
-#[derive(Drop)]
+#[derive(Clone, Copy)]
 pub struct LineColumn {
     pub line: usize,
     pub column: usize,
 }
 
 // Why a text is refused: by 14 at a place of it, by 6 at a node of its tree, or by another number.
-#[derive(Drop)]
+#[derive(Clone, Copy)]
 pub enum Cause {
     AtPlace(usize),
     AtNode(bodies::Broken),

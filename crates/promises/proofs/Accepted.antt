@@ -46,7 +46,7 @@ use Rattle.admitting.specs.GoodSet.{bad_set, first_outside, input_looks, look_ou
 use Rattle.building.specs.Builds.{build_looks, look_outcome, nodes_in, outcome}
 use Rattle.building.specs.Vetoes.{vetoed}
 use Rattle.checking.proofs.Passing.{pc_first}
-use Rattle.checking.specs.Checks.{candidate_looks, first_differs, first_unsure, look_pC, triples_looks}
+use Rattle.checking.specs.Checks.{candidate_looks, first_differs, first_unsure, look_pc, triples_looks}
 use Rattle.loosening.specs.Loosens.{loosen_looks}
 use Rattle.trees.specs.Build.{Outcome, stop, tree}
 use Rattle.trees.specs.Check.{PC}
@@ -169,7 +169,7 @@ module _ (n : ℕ) (t b : List ℕ) (g : Checkable n t b) where
       let some = (length_good b g.body.long).0 in
       pc_first n t (tree_of b) (tree_formed n (nodes b) g.body.good some) (λ x h. lt-ltb x n (tree_below n (nodes b) g.body.good some x h))
 
-  pub pc_pass : (look_pC n t (tree_of b) ≡ Pass) ↔ PC (entered t) (below n) (tree_of b)
+  pub pc_pass : (look_pc n t (tree_of b) ≡ Pass) ↔ PC (entered t) (below n) (tree_of b)
   pc_pass = (
     (λ e. pc_none.1 (ltb-false (first_differs n t (tree_of b)) (C n 3) (pass_false (ltb (first_differs n t (tree_of b)) (C n 3)) _ e))),
     λ pc. rw (le-ltb (first_differs n t (tree_of b)) (C n 3) (pc_none.0 pc)) refl,
@@ -185,12 +185,12 @@ then_known l m p q =
 
 -- 11, then 9 for the room and for the list
 abbrev lent_looks : ℕ → List ℕ → List ℕ → ℕ → ℕ → List Look
-lent_looks n t b l k = look_pC n t (tree_of b) ∷ look_room (length b) l ∷ look_room 62 k ∷ []
+lent_looks n t b l k = look_pc n t (tree_of b) ∷ look_room (length b) l ∷ look_room 62 k ∷ []
 
 pub loosen_pass : (n : ℕ) (t b o d : List ℕ) → Passed (loosen_looks n t b (length o) (length d)) (Loosenable n t b o d × PC (entered t) (below n) (tree_of b))
 loosen_pass n t b o d = Iff.trans
     (then_known (candidate_looks n t b) (lent_looks n t b (length o) (length d)) (check_pass n t b)
-    (λ g. (one_look (look_pC n t (tree_of b)) (pc_pass n t b g) then (roomed (length b) (length o) then roomed 62 (length d))).so)) (
+    (λ g. (one_look (look_pc n t (tree_of b)) (pc_pass n t b g) then (roomed (length b) (length o) then roomed 62 (length d))).so)) (
       (λ p. let g = p.0 in (record { count = g.count; table = g.table; body = g.body; tree_room = p.1.1.0; list = p.1.1.1 }, p.1.0)),
       λ p. let g = p.0 in (record { count = g.count; table = g.table; body = g.body }, (p.1, (g.tree_room, g.list))),
     )

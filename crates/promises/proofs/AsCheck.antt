@@ -16,7 +16,7 @@ use Rattle.refusals.specs.declared.Contradiction.{Contradiction}
 use Rattle.answers.specs.declared.Look.{Look}
 use Rattle.answers.specs.declared.Look.TheVariants.{Pass, Refuse}
 use Rattle.refusals.specs.declared.Refusal.TheVariants.{Contradicted, ShortRoom, Unforced}
-use Rattle.checking.specs.Checks.{candidate_looks, check_looks, first_differs, first_unsure, look_pC, triples_looks}
+use Rattle.checking.specs.Checks.{candidate_looks, check_looks, first_differs, first_unsure, look_pc, triples_looks}
 use Rattle.loosening.specs.Loosens.{loosen_looks}
 use Rattle.promises.specs.Demand1.{Demand1}
 use Rattle.promises.specs.Loosening.{RefusesAsCheck, ThenNine}
@@ -59,7 +59,7 @@ module _ (n : ℕ) (t b : List ℕ) where
   -- a room of l bytes, and a list of k places
   module _ (l k : ℕ) (vs : List Value) where
     abbrev last : List Look
-    last = look_pC n t (tree_of b) ∷ look_room (length b) l ∷ look_room 62 k ∷ []
+    last = look_pc n t (tree_of b) ∷ look_room (length b) l ∷ look_room 62 k ∷ []
 
     loosen_on : first_refusal (candidate_looks n t b) ≡ Pass → look_told (first_refusal (loosen_looks n t b l k)) vs ≡ loosen_tail fails (ltb l (length b)) (ltb k 62) at vs
     loosen_on e = ap (λ (a : Look). look_told a vs) (first_on (candidate_looks n t b) last e)

@@ -34,7 +34,7 @@ use Rattle.answers.specs.declared.Look.{Look}
 use Rattle.answers.specs.declared.Look.TheVariants.{Pass}
 use Rattle.refusals.specs.declared.Refusal.TheVariants.{Contradicted}
 use Rattle.refusals.specs.declared.Refusal.TheVariants.{Unforced as Unforced'}
-use Rattle.checking.specs.Checks.{candidate_looks, check_looks, check_told, first_differs, first_unsure, look_pC, look_pI, triples_looks}
+use Rattle.checking.specs.Checks.{candidate_looks, check_looks, check_told, first_differs, first_unsure, look_pc, look_pi, triples_looks}
 use Rattle.checking.specs.declared.Answer.{Answer}
 use Rattle.checking.specs.declared.Answer.TheVariants.{Passes, Refused}
 use Rattle.promises.specs.Operations.{checks}
@@ -152,7 +152,7 @@ module _ (n : ℕ) (t b : List ℕ) (g : Checkable n t b) where
   pub good_checked : ChecksRight n t (below n) (tree_of b) (checks n t b)
   good_checked = subst (λ (r : Told). ChecksRight n t (below n) (tree_of b) r) (sym checks_tree) (told_of n t (tree_of b) formed bd _ _ refl refl)
 
-  pi_pass : PC (entered t) (below n) (tree_of b) → (look_pI n t (tree_of b) ≡ Pass) ↔ PI (entered t) (below n) (tree_of b)
+  pi_pass : PC (entered t) (below n) (tree_of b) → (look_pi n t (tree_of b) ≡ Pass) ↔ PI (entered t) (below n) (tree_of b)
   pi_pass pc =
       let j = first_unsure n t (tree_of b) in
       let k = pi_first n t (tree_of b) formed (inside n t (tree_of b) formed bd) pc in
@@ -161,4 +161,4 @@ module _ (n : ℕ) (t b : List ℕ) (g : Checkable n t b) where
   -- "the whole check": PC and PI
   pub checked_passes : ((checks n t b).number ≡ 0) ↔ (PC (entered t) (below n) (tree_of b) × PI (entered t) (below n) (tree_of b))
   checked_passes = zero_good (checks n t b) (Looks.first_refusal (triples_looks n t (tree_of b))) [] checks_tree
-      (then_known (look_pC n t (tree_of b) ∷ []) (look_pI n t (tree_of b) ∷ []) (pass_one (look_pC n t (tree_of b)) (pc_pass n t b g)) (λ pc. pass_one (look_pI n t (tree_of b)) (pi_pass pc)))
+      (then_known (look_pc n t (tree_of b) ∷ []) (look_pi n t (tree_of b) ∷ []) (pass_one (look_pc n t (tree_of b)) (pc_pass n t b g)) (λ pc. pass_one (look_pi n t (tree_of b)) (pi_pass pc)))

@@ -31,7 +31,7 @@ use Rattle.refusals.specs.declared.Refusal.TheVariants.{Contradicted, Unforced}
 use Rattle.admitting.proofs.Chosen.{outside_pass}
 use Rattle.building.specs.Builds.{build_done, build_room, build_told, counted_done, counted_refused, look_outcome, looked_by, outcome_by}
 use Rattle.admitting.specs.GoodSet.{look_outside, look_set}
-use Rattle.checking.specs.Checks.{check_told, first_differs, first_unsure, look_pC, look_pI, triples_looks}
+use Rattle.checking.specs.Checks.{check_told, first_differs, first_unsure, look_pc, look_pi, triples_looks}
 use Rattle.easing.specs.Eases.{Lent, eased, laid_out, lent, tally}
 use Rattle.loosening.specs.Loosens.{loosen_told}
 use Rattle.loosening.specs.declared.Answer as Loosening
@@ -93,7 +93,7 @@ module _ (t t' : List ℕ) (f : FansApart t t') where
     abbrev told_of' : Look → Bool → ℕ → ℕ → Look → Told
     told_of' A c j v P = check_told (answered (λ (a : Answer). a) Refused (look_then A (look_then (refuse_if c (Contradicted (record { index = j; byte = v }))) (look_then P Pass))) Passes)
 
-    told_is : (u : List ℕ) → checks n u b ≡ told_of' (first_refusal (front u)) (ltb (first_differs n u (tree_of b)) (C n 3)) (first_differs n u (tree_of b)) (get_or u (first_differs n u (tree_of b)) 0) (look_pI n u (tree_of b))
+    told_is : (u : List ℕ) → checks n u b ≡ told_of' (first_refusal (front u)) (ltb (first_differs n u (tree_of b)) (C n 3)) (first_differs n u (tree_of b)) (get_or u (first_differs n u (tree_of b)) 0) (look_pi n u (tree_of b))
     told_is u = ap (λ (k : Look). check_told (answered (λ (a : Answer). a) Refused k Passes)) (first_append (front u) (triples_looks n u (tree_of b)))
 
     verdict : (A : Look) (c : Bool) (j : ℕ) (P : Look) → SameVerdict t t' (told_of' A c j (get_or t j 0) P) (told_of' A c j (get_or t' j 0) P)
@@ -117,10 +117,10 @@ module _ (t t' : List ℕ) (f : FansApart t t') where
         let T = tree_of b in
         let d = first_differs n t T in
         subst (λ (x : Told). SameVerdict t t' x (checks n t' b)) (sym (told_is t)) (subst (SameVerdict t t' _)
-        (ap₂ (λ (A : Look) (j : ℕ). told_of' A (ltb j (C n 3)) j (get_or t' j 0) (look_pI n t T)) same_front same_differs
+        (ap₂ (λ (A : Look) (j : ℕ). told_of' A (ltb j (C n 3)) j (get_or t' j 0) (look_pi n t T)) same_front same_differs
         ∙ ap (λ (j : ℕ). told_of' (first_refusal (front t')) (ltb (first_differs n t' T) (C n 3)) (first_differs n t' T) (get_or t' (first_differs n t' T) 0) (refuse_if (ltb j (C n 3)) (Unforced j))) same_unsure
         ∙ sym (told_is t'))
-        (verdict (first_refusal (front t)) (ltb d (C n 3)) d (look_pI n t T)))
+        (verdict (first_refusal (front t)) (ltb d (C n 3)) d (look_pi n t T)))
 
     -- ---- loosening, lent the room o and the list d
 
@@ -137,7 +137,7 @@ module _ (t t' : List ℕ) (f : FansApart t t') where
       look_by u = loose_look (first_refusal (front u)) (ltb (first_differs n u (tree_of b)) (C n 3)) (first_differs n u (tree_of b)) (get_or u (first_differs n u (tree_of b)) 0)
 
       loosed_is : (u : List ℕ) → loosens n u b o d ≡ loosed_of (look_by u) (eased n u b)
-      loosed_is u = ap (λ (k : Look). loosed_of k (eased n u b)) (first_append (front u) (look_pC n u (tree_of b) ∷ look_room (length b) (length o) ∷ look_room 62 (length d) ∷ []))
+      loosed_is u = ap (λ (k : Look). loosed_of k (eased n u b)) (first_append (front u) (look_pc n u (tree_of b) ∷ look_room (length b) (length o) ∷ look_room 62 (length d) ∷ []))
 
       abbrev SameLoosed : GivenOf Lent → GivenOf Lent → Type 0
       SameLoosed g g' = SameVerdict t t' g.told g'.told × (g.after ≡ g'.after)

@@ -1,4 +1,6 @@
 // A list of records of three numbers: the first bad one, and what the good ones put into a table, with the species that they name.
+#![tactic(auto)]
+
 ghost use Rattle.std.specs.Prelude.{◌≡◌, false, [], ◌∷◌, ◌<◌, ◌≤◌, length};
 ghost use Rattle.sets.specs.Sets.{number, union};
 ghost use Rattle.tables.specs.Bytes.{enter};

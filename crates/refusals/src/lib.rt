@@ -1,23 +1,25 @@
 // The refusals of document 01's table, and a reply: a number, the values returned with it, and the rule that is broken. That of each refusal, and one value more behind a reply.
+#![tactic(auto)]
+
 ghost use Rattle.refusals.specs.Refusals.{refusal_told};
 ghost use Rattle.refusals.specs.Replies.{Further, Replies};
 
 // Where an entered triplet differs from the tree: the triple's index, and its byte in the table.
-#[derive(Drop)]
+#[derive(Clone, Copy)]
 pub struct Contradiction {
     pub index: usize,
     pub byte: u8,
 }
 
 // Whether a tree keeps the rules, or which one it breaks.
-#[derive(Drop)]
+#[derive(Clone, Copy)]
 pub enum Rule {
     Kept,
     Broken(bodies::Fault),
 }
 
 // Document 01's table, a case for each number.
-#[derive(Drop)]
+#[derive(Clone, Copy)]
 pub enum Refusal {
     BadVersion,
     BadCounts,
@@ -38,7 +40,7 @@ pub enum Refusal {
 }
 
 // A number, with the first `count` of the values, and whether a rule is broken.
-#[derive(Drop)]
+#[derive(Clone, Copy)]
 pub struct Reply {
     pub number: usize,
     pub count: usize,

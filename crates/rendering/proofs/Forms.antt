@@ -24,14 +24,15 @@ use Rattle.rendering.specs.Texts.{children_text, subtree_text, text_of}
 is_digit : (d : ℕ) → d < 10 → So (digit (glyph d))
 is_digit d h = and_i (leb 48 (48 + d)) (leb (48 + d) 57) (le-leb 48 (48 + d) (omega arith)) (le-leb (48 + d) 57 (omega arith))
 
--- one digit more
-further_more : {x v : ℕ} {w r : List ℕ} (d : ℕ) → d < 10 → Further x v w (glyph d ∷ r) → Further x (10 * v + (glyph d - 48)) w r
-further_more d h no_further = one_further (is_digit d h) no_further
-further_more d h (one_further k f) = one_further k (further_more d h f)
+-- one digit more: r' begins with it
+further_more : {x v : ℕ} {w r' : List ℕ} (d : ℕ) (r : List ℕ) → d < 10 → Further x v w r' → r' ≡ glyph d ∷ r → Further x (10 * v + (glyph d - 48)) w r
+further_more {x = x} {v = v} d r h no_further e =
+    subst (λ (u : List ℕ). Further x (10 * v + (glyph d - 48)) u r) (sym e) (one_further (is_digit d h) no_further)
+further_more d r h (one_further k f) e = one_further k (further_more d r h f e)
 
-number_more : {v : ℕ} {w r : List ℕ} (d : ℕ) → d < 10 → 0 < v → Number v w (glyph d ∷ r) → Number (10 * v + (glyph d - 48)) w r
-number_more d h p nought = absurd (omega arith)
-number_more d h p (other k z f) = other k z (further_more d h f)
+number_more : {v : ℕ} {w r' : List ℕ} (d : ℕ) (r : List ℕ) → d < 10 → 0 < v → Number v w r' → r' ≡ glyph d ∷ r → Number (10 * v + (glyph d - 48)) w r
+number_more d r h p nought e = absurd (omega arith)
+number_more d r h p (other k z f) e = other k z (further_more d r h f e)
 
 number-digit : (x : ℕ) (r : List ℕ) → x < 10 → Number x (glyph x ∷ r) r
 number-digit zero r h = nought
@@ -51,7 +52,7 @@ decimal-number (suc k) x r h l = by (dec_lt x 10) (λ q s. decimal-number k (x /
         let e : 10 * (x / 10) + (glyph (x % 10) - 48) ≡ x = omega arith in
         let w : decimal x ++ r ≡ decimal (x / 10) ++ (glyph (x % 10) ∷ r) = ap (λ (u : List ℕ). u ++ r) (decimal_more x z l) ∙ append_assoc (decimal (x / 10)) (glyph (x % 10) ∷ []) r in
         subst (λ (u : List ℕ). Number x u r) (sym w)
-        (subst (λ (y : ℕ). Number y (decimal (x / 10) ++ (glyph (x % 10) ∷ r)) r) e (number_more (x % 10) (omega arith) (omega arith) (ih z (glyph (x % 10) ∷ r))))
+        (subst (λ (y : ℕ). Number y (decimal (x / 10) ++ (glyph (x % 10) ∷ r)) r) e (number_more (x % 10) r (omega arith) (omega arith) (ih z (glyph (x % 10) ∷ r)) refl))
 
 -- ---- trees
 

@@ -1,4 +1,6 @@
 // A tree's body as Newick text, in house order, without lengths or blanks.
+#![tactic(auto)]
+
 ghost use Rattle.std.specs.Prelude.{◌<◌, ◌≤◌};
 ghost use Rattle.trees.specs.Trees.{house};
 ghost use Rattle.bodies.specs.Nodes.{nodes, most_nodes, Good};
@@ -12,12 +14,12 @@ ghost use Rattle.rendering.specs.Renders.{Renders};
 pub const LONGEST: usize = 308;
 
 // How many bytes were written to the front of the room.
-#[derive(Drop)]
+#[derive(Clone, Copy)]
 pub struct Text {
     pub length: usize,
 }
 
-#[derive(Drop)]
+#[derive(Clone, Copy)]
 pub enum Answer {
     Done(Text),
     Refused(refusals::Refusal),

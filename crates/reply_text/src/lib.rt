@@ -1,4 +1,6 @@
 // The text of a reply, and behind it that of what was lent: bytes of a table or a room, or a room and a list of sets.
+#![tactic(auto)]
+
 ghost use Rattle.std.specs.Prelude.{◌≡◌, ◌∷◌, ◌++◌, ◌≤◌, take};
 ghost use Rattle.refusals.specs.Replies.{values_of};
 ghost use Rattle.writing.specs.Texts.{decimal, ended};

@@ -1,4 +1,6 @@
 // The rules of a tree's body, and the first that is broken.
+#![tactic(auto)]
+
 ghost use Rattle.std.specs.Prelude.{◌≡◌, ◌<◌, length};
 ghost use Rattle.bodies.specs.Nodes.{nodes, children};
 ghost use Rattle.rules.specs.Faults.{right_parent, right_species, earlier, parent_fault, node_fault, fault};

@@ -29,7 +29,7 @@ use Rattle.answers.specs.declared.Look.TheVariants.{Pass}
 use Rattle.refusals.specs.declared.Refusal.TheVariants.{Contradicted, Unforced}
 use Rattle.checking.proofs.Judged.{agreed, is_earned}
 use Rattle.checking.proofs.Passing.{pc_first}
-use Rattle.checking.specs.Checks.{answer_of, candidate_looks, check_answer, check_told, first_differs, first_unsure, look_pC, triples_looks}
+use Rattle.checking.specs.Checks.{answer_of, candidate_looks, check_answer, check_told, first_differs, first_unsure, look_pc, triples_looks}
 use Rattle.checking.specs.declared.Answer as Check
 use Rattle.easing.specs.Eases.{eased, numbers, tally}
 use Rattle.loosening.specs.Loosens.{late_looks, loosen_answer, loosen_looks}
@@ -59,7 +59,7 @@ module _ (n : ℕ) (t b : List ℕ) (c : Count n) (k : Table n t) (g : Body n b)
   inside x h = lt-ltb x n (built_below g x h)
 
   -- no entered triplet contradicts the tree
-  module _ (none : look_pC n t (tree_of b) ≡ Pass) where
+  module _ (none : look_pc n t (tree_of b) ≡ Pass) where
     pc : PC (entered t) (below n) (tree_of b)
     pc = agreed n t (tree_of b) (built_formed g) (built_below g) none
 
@@ -76,7 +76,7 @@ module _ (n : ℕ) (t b : List ℕ) (c : Count n) (k : Table n t) (g : Body n b)
     unfolding eased
     left_earned = final_earned (entered t) (entered_proper t) n (tree_of b) (built_formed g) (built_below g)
 
-    left-none : look_pC n t F ≡ Pass
+    left-none : look_pc n t F ≡ Pass
     left-none =
         let w = final_well g c t in
         let s : Inside (under F) (below n) = λ x h. lt-ltb x n (final_below g c t x h) in
@@ -92,7 +92,7 @@ module _ (n : ℕ) (t b : List ℕ) (c : Count n) (k : Table n t) (g : Body n b)
     pass =
         let l = length_good b g.long in
         first_on (candidate_looks n t b) (late_looks n t b longest 62) (candidate_good c k g)
-        ∙ (then_pass (look_pC n t (tree_of b)) _).1 (
+        ∙ (then_pass (look_pc n t (tree_of b)) _).1 (
           none,
           (then_pass (look_room (length b) longest) _).1
               ((room_pass (length b) longest).1 (omega (arith, l.1, l.2)), (then_pass (look_room 62 62) Pass).1 ((room_pass 62 62).1 (omega arith), refl)),

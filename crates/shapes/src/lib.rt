@@ -1,11 +1,13 @@
 // What follows the byte of a call, and numbers of four and of eight bytes.
+#![tactic(auto)]
+
 ghost use Rattle.std.specs.Prelude.{◌≡◌, ◌+◌, ◌<◌, ◌≤◌, ◌^◌, length};
 ghost use Rattle.shapes.specs.Numbers.{four_at, eight_at};
 ghost use Rattle.shapes.specs.Shapes.{row, shape};
 
 // What follows the byte of a call: how many numbers, and how many bytes an item of each field has; 0 where the call has no such field. An item is a
 // byte, a record or a set.
-#[derive(Drop)]
+#[derive(Clone, Copy)]
 pub struct Shape {
     pub known: bool,
     pub numbers: usize,

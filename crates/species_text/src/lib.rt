@@ -1,4 +1,6 @@
 // Lines of species, and lines of a tree: each function writes at `at`, and answers where the next byte goes.
+#![tactic(auto)]
+
 ghost use Rattle.answers.specs.Inputs.{Body, Count};
 ghost use Rattle.writing.specs.Writes.{Writes};
 ghost use Rattle.species_text.specs.Lines.{species_line, tree_line};

@@ -1,4 +1,6 @@
 // Splitting a set of species into its connected parts under the entered triplets' links. The rows of links are known here alone.
+#![tactic(auto)]
+
 ghost use Rattle.std.specs.Prelude.{◌≡◌, ◌<◌, length};
 ghost use Rattle.std.proofs.lemmas.List.Edits.{sets};
 ghost use Rattle.sets.specs.Sets.{has, size};
@@ -10,7 +12,7 @@ ghost use Rattle.splitting.specs.Rows.{flag, RowsShow, Pair, Ties, InRow, InLeve
 ghost use Rattle.splitting.specs.Split.{parts_of};
 
 // How many parts a set has, and how many triples were looked at to find them.
-#[derive(Drop)]
+#[derive(Clone, Copy)]
 pub struct Parted {
     pub count: usize,
     pub looked: usize,
@@ -18,7 +20,7 @@ pub struct Parted {
 
 // The rows of links, and how many triples were looked at. The rows are handed back by value: where they were lent, one split had so little data that the
 // compiler put it into each level of the build, some 500 bytes a level more.
-#[derive(Drop)]
+#[derive(Clone, Copy)]
 struct Filled {
     rows: [u64; 64],
     looked: usize,

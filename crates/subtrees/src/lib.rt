@@ -1,4 +1,6 @@
 // The subtrees of a Newick text into the nodes of a draft, by two readers that call each other; and a whole text.
+#![tactic(auto)]
+
 ghost use Rattle.std.specs.Prelude.{◌≡◌, ◌≤◌, length};
 ghost use Rattle.bodies.specs.Nodes.{longest, most_nodes};
 ghost use Rattle.subtrees.specs.Subtrees.{SubtreeRead, ListRead, Whole};

@@ -16,7 +16,7 @@ use Rattle.trees.proofs.Triplets.{different_e, different_i}
 use Rattle.trees.specs.Triplets.{Proper, different}
 use Rattle.tables.proofs.Bytes.{byte_says, entered_proper, entered_same}
 use Rattle.triples.proofs.Indices.{high_of, index-lt, low_of, mid_of}
-use Rattle.tables.specs.Bytes.{Small, entered, fan_bit, sign_aB, sign_aC, sign_bC, sign_fan}
+use Rattle.tables.specs.Bytes.{Small, entered, fan_bit, sign_ab, sign_ac, sign_bc, sign_fan}
 use Rattle.tables.specs.Filled.{Said, both_said, byte_for, byte_of, bytes_from, table_for}
 use Rattle.triples.specs.Index.{C, high_at, index, low_at, mid_at}
 
@@ -47,7 +47,7 @@ sign_most true k = omega arith
 sign_most false k = omega arith
 
 byte_small : (x y z f : Bool) → Small (byte_of x y z f)
-byte_small x y z f = omega (arith, sign_most x sign_aB, sign_most y sign_aC, sign_most z sign_bC, sign_most f sign_fan)
+byte_small x y z f = omega (arith, sign_most x sign_ab, sign_most y sign_ac, sign_most z sign_bc, sign_most f sign_fan)
 
 pub byte_most : (S : Said) (a b c : ℕ) → Small (byte_for S a b c)
 byte_most S a b c = byte_small (S.triplets a b c) (S.triplets a c b) (S.triplets b c a) (S.fans a b c)

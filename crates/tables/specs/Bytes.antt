@@ -15,14 +15,14 @@ abbrev pub wrong_length : ℕ → ℕ → Bool
 wrong_length n l = not (eqb l (C n 3))
 
 -- "1 stands for ab|c, 2 for ac|b, 4 for bc|a", in the byte of the triple a < b < c
-abbrev pub sign_aB : ℕ
-sign_aB = 1
+abbrev pub sign_ab : ℕ
+sign_ab = 1
 
-abbrev pub sign_aC : ℕ
-sign_aC = 2
+abbrev pub sign_ac : ℕ
+sign_ac = 2
 
-abbrev pub sign_bC : ℕ
-sign_bC = 4
+abbrev pub sign_bc : ℕ
+sign_bc = 4
 
 -- 8 stands for a fan of the three
 abbrev pub sign_fan : ℕ

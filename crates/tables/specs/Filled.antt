@@ -4,7 +4,7 @@
 use Rattle.std.specs.Prelude.{Bool, cond, false, List, [], ◌∷◌, ℕ, zero, suc, ◌+◌}
 use Rattle.trees.specs.Trees.{Tree}
 use Rattle.trees.specs.Triplets.{Triplets, both, fan, holds}
-use Rattle.tables.specs.Bytes.{sign_aB, sign_aC, sign_bC, sign_fan}
+use Rattle.tables.specs.Bytes.{sign_ab, sign_ac, sign_bc, sign_fan}
 use Rattle.triples.specs.Index.{C, low_at, mid_at, high_at}
 
 -- triplets, and fans of three species
@@ -26,7 +26,7 @@ both_said S Z = record { triplets = both S.triplets Z.triplets; fans = both S.fa
 
 -- the byte of a triple a < b < c of which ab|c, ac|b, bc|a and the fan are said or not
 abbrev pub byte_of : Bool → Bool → Bool → Bool → ℕ
-byte_of x y z f = cond x sign_aB 0 + (cond y sign_aC 0 + (cond z sign_bC 0 + cond f sign_fan 0))
+byte_of x y z f = cond x sign_ab 0 + (cond y sign_ac 0 + (cond z sign_bc 0 + cond f sign_fan 0))
 
 -- the byte that S gives to it
 abbrev pub byte_for : Said → ℕ → ℕ → ℕ → ℕ

@@ -1,4 +1,6 @@
 // The table of entered triplets: its bytes.
+#![tactic(auto)]
+
 ghost use Rattle.std.specs.Prelude.{◌≡◌, ◌<◌, ◌≤◌, get_or, length, replicate, set};
 ghost use Rattle.std.proofs.Math.Bool.{So};
 ghost use Rattle.sets.specs.Sets.{single};
@@ -19,7 +21,7 @@ pub const FAN: u8 = 8;
 const TOP: u8 = 15;
 
 // What is entered of a triple a < b < c: ab|c, ac|b, bc|a.
-#[derive(Drop)]
+#[derive(Clone, Copy)]
 pub struct Bits {
     pub ab: bool,
     pub ac: bool,
@@ -27,7 +29,7 @@ pub struct Bits {
 }
 
 // Where a triplet stands in the table: the place of its byte, and its bit there, which is 1, 2 or 4.
-#[derive(Drop)]
+#[derive(Clone, Copy)]
 struct Mark {
     place: usize,
     bit: u8,

@@ -1,4 +1,6 @@
 // The texts of an input, one after the other: where one ends, and where blanks only are left.
+#![tactic(auto)]
+
 ghost use Rattle.std.specs.Prelude.{◌≡◌, ◌+◌, ◌≤◌, drop, length};
 ghost use Rattle.texts.specs.Texts.{all_blank, span};
 

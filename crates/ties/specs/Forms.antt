@@ -2,7 +2,7 @@
 -- number, with the triple index after it (index 0 too) unless the check's number is 0. Refusal 10 prints only `build 10` and the set in decimal. A collection
 -- refused prints `read`, the number, tree number and node, with 0 for what that refusal lacks."
 use Rattle.std.specs.Prelude.{List, [], ◌∷◌, ◌++◌, ◌⊎◌, ◌≡◌, ℕ, ◌≤◌, replicate, take}
-use Rattle.contracts.specs.Contracts.{After}
+use Rattle.contracts.specs.AnyCall.{After}
 use Rattle.sets.specs.Sets.{has}
 use Rattle.trees.specs.Held.{CanBeHeld}
 use Rattle.tables.specs.Bytes.{entered}

@@ -1,5 +1,5 @@
 -- Nothing is asked of who calls: the contract of each public function of an operation, and of each C function, has no `requires`. Document 01, demand 1: "Every byte string and every number may be handed in."
-use Rattle.contracts.specs.Contracts.{AsksNothing}
+use Rattle.contracts.specs.AnyCall.{AsksNothing}
 use Rattle.collections.specs.contracts.read as reading-of
 use Rattle.listing.specs.contracts.list as listing-of
 use Rattle.entering.specs.contracts.enter as entering-of

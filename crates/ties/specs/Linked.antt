@@ -1,7 +1,7 @@
 -- What laboratories link and what `trial` prints: the C functions hand back the numbers and values of the demands' answers, and leave in what was lent what the
 -- demands say; the lines of `trial` are those answers as text.
 use Rattle.std.specs.Prelude.{List, ◌++◌, map, ◌≡◌, ℕ}
-use Rattle.contracts.specs.Contracts.{After}
+use Rattle.contracts.specs.AnyCall.{After}
 use Rattle.writing.specs.Texts.{ended}
 use Rattle.writing.specs.Writes.{Writes}
 use Rattle.table_lines.specs.contracts.build_line as build-line

@@ -1,6 +1,6 @@
 -- The demands are of the code: what the contract of a function says in its source is what the demands speak of.
 use Rattle.std.specs.Prelude.{map, ◌≡◌}
-use Rattle.contracts.specs.Contracts.{After}
+use Rattle.contracts.specs.AnyCall.{After}
 use Rattle.collections.specs.contracts.read as read
 use Rattle.collections.specs.Reads.{read_told}
 use Rattle.listing.specs.contracts.list as list

@@ -6,12 +6,13 @@ ghost use Rattle.making.specs.Made.{longest_line};
 ghost use Rattle.trial.specs.OneCall.{OneCall};
 
 use input::Input;
+use std::io::Stdin;
 
 // How many calls are made at most: the program ends.
 const MOST_CALLS: u64 = 9223372036854775808;
 
 // After a call: what is still to be read, and how much text waits in `out`.
-#[derive(Drop)]
+#[derive(Clone, Copy)]
 struct State {
     left: Input,
     len: usize,
@@ -19,6 +20,7 @@ struct State {
 
 // Reads one call, makes it, and writes its line.
 fn one_call(
+    stdin: Stdin,
     buffer: &mut [u8],
     from: Input,
     first: &mut [u8],
@@ -35,7 +37,7 @@ fn one_call(
     ensures one_call { OneCall from buffer.old result.left buffer.new out.old len out.new result.len }
     ensures in_buffer_2 { InBuffer result.left buffer.new × (result.len ≤ length out.old) }
 {
-    let c = calls::read_call(buffer, from, first, second, third, fourth);
+    let c = calls::read_call(stdin, buffer, from, first, second, third, fourth);
     let left = c.left;
     State {
         left: left,
@@ -53,6 +55,7 @@ fn calls_left(left: Input, calls: u64) -> u64
 
 // Makes one call after the other, and answers how much text waits at the end.
 fn answer(
+    stdin: Stdin,
     buffer: &mut [u8],
     first: &mut [u8],
     second: &mut [u8],
@@ -70,7 +73,7 @@ fn answer(
     let mut calls = MOST_CALLS;
     while 0 < calls {
         let s = one_call(
-            buffer, left, first, second, third, fourth, records, list, out, len,
+            stdin, buffer, left, first, second, third, fourth, records, list, out, len,
         );
         left = s.left;
         len = s.len;
@@ -100,7 +103,7 @@ fn no_text() -> [u8; 3145728]
     [0; 3145728]
 }
 
-fn main() {
+fn main(rt: HostRuntime) {
     let mut buffer = io::large_buffer();
     let mut first = io::large_buffer();
     let mut second = io::large_buffer();
@@ -110,6 +113,7 @@ fn main() {
     let mut list = no_sets();
     let mut out = no_text();
     let len = answer(
+        rt.stdin(),
         &mut buffer,
         &mut first,
         &mut second,

@@ -1,10 +1,12 @@
 // Triples of species in increasing order, and their indices.
+#![tactic(auto)]
+
 ghost use Rattle.std.specs.Prelude.{◌≡◌, ◌<◌, ◌≤◌, min, max};
 ghost use Rattle.triples.specs.Index.{C, index, low, mid, high, largest};
 ghost use Rattle.triples.specs.Named.{named};
 
 // Three species in increasing order.
-#[derive(Drop)]
+#[derive(Clone, Copy)]
 pub struct Triple {
     pub low: usize,
     pub mid: usize,
@@ -12,14 +14,14 @@ pub struct Triple {
 }
 
 // The triple that an index stands for, for people to read.
-#[derive(Drop)]
+#[derive(Clone, Copy)]
 pub enum Named {
     Known(Triple),
     Beyond,
 }
 
 // Where a search for the first triple in index order ended.
-#[derive(Drop)]
+#[derive(Clone, Copy)]
 pub enum Found {
     Nowhere,
     At(Triple),

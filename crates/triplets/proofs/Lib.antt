@@ -1,5 +1,2 @@
--- The laws of the named form, and what its proofs by hand share (`Locals`, `Again`, `Turns`).
+-- The laws of the named form.
 pub mod Spelling
-pub mod Locals
-pub mod Again
-pub mod Turns

@@ -1,4 +1,6 @@
 // The named form of entering: a lent list of triplets by name, each read as the record of its three species.
+#![tactic(auto)]
+
 ghost use Rattle.std.specs.Prelude.{◌≡◌, [], ◌∷◌, map};
 ghost use Rattle.records.specs.Records.{first_bad};
 ghost use Rattle.entering.specs.Enters.{Enters};
@@ -7,7 +9,7 @@ ghost use Rattle.triplets.specs.Spelled.{spelled, nearer};
 
 // A triplet by its species: ab|c. C has it as three bytes.
 #[repr(C)]
-#[derive(Drop)]
+#[derive(Clone, Copy)]
 pub struct Triplet {
     pub a: u8,
     pub b: u8,

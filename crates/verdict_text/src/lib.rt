@@ -1,4 +1,6 @@
 // The line of the check of a built tree: that it passes, or the first triplet that is not forced. Each function writes at `at`, and answers where the next byte goes.
+#![tactic(auto)]
+
 ghost use Rattle.triples.specs.Named.{named};
 ghost use Rattle.bodies.specs.Draws.{tree_of};
 ghost use Rattle.answers.specs.Inputs.{Body, Count};

@@ -1,4 +1,6 @@
 // Text into lent bytes: each function that puts writes at `at`, and answers where the next byte goes.
+#![tactic(auto)]
+
 ghost use Rattle.std.specs.Prelude.{◌≡◌, [], ◌∷◌, ◌++◌, ◌+◌, ◌<◌, ◌≤◌, length, take, drop};
 ghost use Rattle.writing.specs.Texts.{decimal, spaced};
 ghost use Rattle.writing.specs.Writes.{Writes};

@@ -16,15 +16,15 @@ all-requires c κs = search rules
 subset-requires : tie.Need-subset-requires
 subset-requires c κs = search rules
 
-returns : tie.Need-returns
-returns c = rw (eq-eqb c.before.args.s 0 c.if1.true) refl
+returns : tie.Need-returns-then-s-eq0
+returns c = rw (eq-eqb c.before.args.s 0 c.if-s-eq0.true) refl
 
-returns_2 : tie.Need-returns-2
+returns_2 : tie.Need-returns-else-s-eq0
 returns_2 c =
     let e = c.before.before in
     let a = e.before.args in
-    bad_subset a.n a.s e.if1.false c.subset.result
+    bad_subset a.n a.s e.if-s-eq0.false c.subset.result
     (subst (λ (u : ℕ). (c.subset.result ≡ true) ↔ Subset a.s u) c.before.all.ensures c.subset.ensures)
 
-pub bad-set-spec : {M : Type 1} → statement M
-bad-set-spec = tie.close (tie.spec all-requires subset-requires returns returns_2)
+pub bad_set_spec : {M : Type 1} → statement M
+bad_set_spec = tie.close (tie.spec all-requires subset-requires returns returns_2)

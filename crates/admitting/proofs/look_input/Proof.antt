@@ -25,7 +25,7 @@ use Rattle.admitting.proofs.Chosen.{outside_none, outside_some, set_pass}
 use Rattle.admitting.proofs.look_input.Statement.{statement}
 use Rattle.admitting.proofs.look_input.Tie as tie
 
-module _ (c : tie.After-look-table) where
+module _ (c : tie.After-look_table-look) where
   abbrev st : tie.Start
   st = c.before.before
 
@@ -46,12 +46,12 @@ module _ (c : tie.After-look-table) where
   nine = look_room (room_for (size s)) st.args.l
 
 -- nothing of 2, 7, 8 was refused
-module _ (c : tie.After-enum-told) where
-  abbrev p : tie.After-look-table
-  p = c.before.before
+module _ (c : tie.In-Pass) where
+  abbrev p : tie.After-look_table-look
+  p = c.before
 
   passed : first_refusal (early p) ≡ Pass
-  passed = sym p.look-table.ensures ∙ c.enum_told.given.1
+  passed = sym p.look_table-look.ensures ∙ c.in-Pass.is
 
   counted : Count (n p)
   counted = (count_pass (n p)).0 ((then_pass (look_count (n p)) _).0 passed).0
@@ -63,12 +63,12 @@ module _ (c : tie.After-enum-told) where
       ∙ ap (λ (k : Look). look_then k (first_refusal (look_outside (n p) (s p) (t p) ∷ nine p ∷ []))) e
 
 -- nor 15
-module _ (c : tie.Else1) where
-  abbrev q : tie.After-enum-told
+module _ (c : tie.Else-bad_set) where
+  abbrev q : tie.In-Pass
   q = c.before.before
 
   fine : look_set (n (p q)) (s (p q)) ≡ Pass
-  fine = ap (λ (b : Bool). refuse_if b BadSet) (sym c.before.bad-set.ensures ∙ c.if1.false)
+  fine = ap (λ (b : Bool). refuse_if b BadSet) (sym c.before.bad_set.ensures ∙ c.if-bad_set.false)
 
   good : GoodSet (n (p q)) (s (p q))
   good = (set_pass (n (p q)) (s (p q))).0 fine
@@ -78,95 +78,94 @@ module _ (c : tie.Else1) where
   from_16 a e = from_15 q Pass fine ∙ ap (λ (k : Look). look_then k (look_then (nine (p q)) Pass)) e
 
 -- a triple that reaches outside
-hit : (c : tie.After-found) → let e = c.before.before.before in Hit (n (p (q e))) (reaches (t (p (q e))) (s (p (q e)))) c.found.given.0.0
+hit : (c : tie.In-At) → let e = c.before.before in Hit (n (p (q e))) (reaches (t (p (q e))) (s (p (q e)))) c.in-At.x
 hit c =
-    let f = c.before.before in
+    let f = c.before in
     let x = p (q f.before) in
-    subst (λ (r : Found). Finds (n x) (reaches (t x) (s x)) r) c.found.given.1 f.first-outside.ensures
+    subst (λ (r : Found). Finds (n x) (reaches (t x) (s x)) r) c.in-At.is f.first_outside-found.ensures
 
 -- nor 16
-enclosed : (c : tie.After-enum-told2) → let e = c.before.before.before in look_outside (n (p (q e))) (s (p (q e))) (t (p (q e))) ≡ Pass
+enclosed : (c : tie.In-Nowhere) → let e = c.before.before in look_outside (n (p (q e))) (s (p (q e))) (t (p (q e))) ≡ Pass
 enclosed c =
-    let f = c.before.before in
+    let f = c.before in
     let x = p (q f.before) in
-    outside_none (n x) (s x) (t x) (subst (λ (r : Found). Finds (n x) (reaches (t x) (s x)) r) c.enum-told2.given.1 f.first-outside.ensures)
+    outside_none (n x) (s x) (t x) (subst (λ (r : Found). Finds (n x) (reaches (t x) (s x)) r) c.in-Nowhere.is f.first_outside-found.ensures)
 
-look-table-requires : tie.Need-look-table-requires
+look-table-requires : tie.Need-look_table-look-requires
 look-table-requires c κs = search rules
 
-enum_told : tie.Need-enum-told
+enum_told : tie.Need-enum_told-1
 enum_told c = search rules
 
-enum-known-look : tie.Need-enum-known-look
+enum-known-look : tie.Need-enum_known-look
 enum-known-look c = search rules
 
-returns : tie.Need-returns
+returns : tie.Need-returns-in-Refuse
 returns c =
-    let k = c.before in
-    let x = k.before.before in
-    sym (first_stop (early x) (look_set (n x) (s x) ∷ look_outside (n x) (s x) (t x) ∷ nine x ∷ []) _ (sym x.look-table.ensures ∙ k.look.given.1))
+    let x = c.before in
+    sym (first_stop (early x) (look_set (n x) (s x) ∷ look_outside (n x) (s x) (t x) ∷ nine x ∷ []) _ (sym x.look_table-look.ensures ∙ c.in-Refuse.is))
 
-bad-set-requires : tie.Need-bad-set-requires
+bad-set-requires : tie.Need-bad_set-requires
 bad-set-requires c κs = (counted c).most
 
-returns_2 : tie.Need-returns-2
+returns_2 : tie.Need-returns-then-bad_set
 returns_2 c =
     let b = c.before in
-    sym (from_15 b.before _ (ap (λ (z : Bool). refuse_if z BadSet) (sym b.bad-set.ensures ∙ c.if1.true)))
+    sym (from_15 b.before _ (ap (λ (z : Bool). refuse_if z BadSet) (sym b.bad_set.ensures ∙ c.if-bad_set.true)))
 
-first-outside-requires : tie.Need-first-outside-requires
+first-outside-requires : tie.Need-first_outside-found-requires
 first-outside-requires c κs = (counted (q c)).most
 
-enum-told-2 : tie.Need-enum-told-2
+enum-told-2 : tie.Need-enum_told-in-Nowhere
 enum-told-2 c = search rules
 
-enum-known-found : tie.Need-enum-known-found
+enum-known-found : tie.Need-enum_known-found
 enum-known-found c = search rules
 
 index-requires : tie.Need-index-requires
 index-requires c κs =
-    let h = hit c.before in
-    (h.low_mid, h.mid_high, omega (arith, h.high_below, (counted (q c.before.before.before.before)).most))
+    let h = hit c in
+    (h.low_mid, h.mid_high, omega (arith, h.high_below, (counted (q c.before.before)).most))
 
-returns_3 : tie.Need-returns-3
+returns_3 : tie.Need-returns-in-At
 returns_3 c =
-    let f = c.before.before in
-    let e = f.before.before.before in
+    let f = c.before in
+    let e = f.before.before in
     let x = p (q e) in
-    sym (from_16 e _ (outside_some (n x) (s x) (t x) f.found.given.0.0 (hit f) c.index.result c.index.ensures))
+    sym (from_16 e _ (outside_some (n x) (s x) (t x) f.in-At.x (hit f) c.index.result c.index.ensures))
 
 size_requires : tie.Need-size-requires
 size_requires c κs = search rules
 
-cast-room : tie.Need-overflow-cast-room
+cast-room : tie.Need-overflow_cast-size
 cast-room c = search rules
 
 room-requires : tie.Need-room-requires
 room-requires c κs =
-    let e = c.before.before.before.before in
+    let e = c.before.before.before in
     let x = p (q e) in
-    (omega (arith, (good e).some, c.size.ensures), omega (arith, size-le 64 (s x) (st x).fits.set.fits, c.size.ensures))
+    (omega (arith, (good e).some, c.size.ensures), omega (arith, size-le 64 (s x) (st x).ranges.set.fits, c.size.ensures))
 
-returns_4 : tie.Need-returns-4
+returns_4 : tie.Need-returns-then-l-room
 returns_4 c =
     let r = c.before in
     let w = r.before.before in
-    let e = w.before.before.before in
+    let e = w.before.before in
     let x = p (q e) in
-    let z = lt-ltb (st x).args.l (room_for (size (s x))) (omega (arith, c.if2.true, r.room.ensures, r.before.size.ensures)) in
+    let z = lt-ltb (st x).args.l (room_for (size (s x))) (omega (arith, c.if-l-room.true, r.room.ensures, r.before.size.ensures)) in
     sym (from_16 e Pass (enclosed w) ∙ rw z refl)
 
-returns_5 : tie.Need-returns-5
+returns_5 : tie.Need-returns
 returns_5 c =
     let r = c.before in
     let w = r.before.before in
-    let e = w.before.before.before in
+    let e = w.before.before in
     let x = p (q e) in
-    let z = le-ltb (st x).args.l (room_for (size (s x))) (omega (arith, c.if2.false, r.room.ensures, r.before.size.ensures)) in
+    let z = le-ltb (st x).args.l (room_for (size (s x))) (omega (arith, c.if-l-room.false, r.room.ensures, r.before.size.ensures)) in
     sym (from_16 e Pass (enclosed w) ∙ rw z refl)
 
-pub look-input-spec : {M : Type 1} → statement M
-look-input-spec =
+pub look_input_spec : {M : Type 1} → statement M
+look_input_spec =
     tie.close
     (tie.spec
     look-table-requires

@@ -16,41 +16,41 @@ use Rattle.answers.proofs.look_table.Statement.{statement}
 use Rattle.answers.proofs.look_table.Tie as tie
 
 -- what was passed: the number of species, and then the table's length
-counted : (c : tie.Else1) → wrong_count c.before.before.before.args.n ≡ false
-counted c = sym c.before.wrong-count.ensures ∙ c.if1.false
+counted : (c : tie.Else-wrong_count) → wrong_count c.before.before.before.args.n ≡ false
+counted c = sym c.before.wrong_count.ensures ∙ c.if-wrong_count.false
 
-fitting : (c : tie.Else2) → wrong_length c.before.before.before.before.before.args.n (length c.before.before.before.before.before.args.t.now) ≡ false
-fitting c = sym (ap not c.before.fits2.ensures) ∙ c.if2.false
+fitting : (c : tie.Else-not-fits) → wrong_length c.before.before.before.before.before.args.n (length c.before.before.before.before.before.args.t.now) ≡ false
+fitting c = ap not (sym c.fits.ensures ∙ c.if-not-fits.false)
 
-wrong-count-requires : tie.Need-wrong-count-requires
+wrong-count-requires : tie.Need-wrong_count-requires
 wrong-count-requires c κs = search rules
 
-returns : tie.Need-returns
-returns c = rw (sym c.before.wrong-count.ensures ∙ c.if1.true) refl
+returns : tie.Need-returns-then-wrong_count
+returns c = rw (sym c.before.wrong_count.ensures ∙ c.if-wrong_count.true) refl
 
 fits-requires : tie.Need-fits-requires
 fits-requires c κs = ltb-false 64 _ (or-none (eqb c.before.before.before.args.n 0) _ (counted c)).1
 
-returns_2 : tie.Need-returns-2
-returns_2 c = rw (counted c.before.before, sym (ap not c.before.fits2.ensures) ∙ c.if2.true) refl
+returns_2 : tie.Need-returns-then-not-fits
+returns_2 c = rw (counted c.before.before, ap not (sym c.fits.ensures ∙ c.if-not-fits.true)) refl
 
-over-requires : tie.Need-over-requires
+over-requires : tie.Need-over-i-requires
 over-requires c κs = search rules
 
-returns_3 : tie.Need-returns-3
+returns_3 : tie.Need-returns-then-i-t
 returns_3 c =
     let e = c.before.before in
     let b = e.before.before in
     let t = b.before.before.before.args.t.now in
-    rw (counted b, fitting e, lt-ltb (over t) (length t) (omega (arith, c.if3.true, c.before.over.ensures))) (ap (λ (i : ℕ). Refuse (BadByte i)) c.before.over.ensures)
+    rw (counted b, fitting e, lt-ltb (over t) (length t) (omega (arith, c.if-i-t.true, c.before.over-i.ensures))) (ap (λ (i : ℕ). Refuse (BadByte i)) c.before.over-i.ensures)
 
-returns_4 : tie.Need-returns-4
+returns_4 : tie.Need-returns
 returns_4 c =
     let e = c.before.before in
     let b = e.before.before in
     let t = b.before.before.before.args.t.now in
-    rw (counted b, fitting e, le-ltb (over t) (length t) (omega (arith, c.if3.false, c.before.over.ensures))) refl
+    rw (counted b, fitting e, le-ltb (over t) (length t) (omega (arith, c.if-i-t.false, c.before.over-i.ensures))) refl
 
-pub look-table-spec : {M : Type 1} → statement M
-look-table-spec =
+pub look_table_spec : {M : Type 1} → statement M
+look_table_spec =
     tie.close (tie.spec wrong-count-requires returns fits-requires returns_2 over-requires returns_3 returns_4)

@@ -7,42 +7,42 @@ use Rattle.building.proofs.Whole.{vetoes, vetoes-not}
 use Rattle.building.proofs.veto.Statement.{statement}
 use Rattle.building.proofs.veto.Tie as tie
 
-look-input-requires : tie.Need-look-input-requires
+look-input-requires : tie.Need-look_input-look-requires
 look-input-requires c κs = search rules
 
-enum_told : tie.Need-enum-told
+enum_told : tie.Need-enum_told-1
 enum_told c = search rules
 
 raise-requires : tie.Need-raise-requires
 raise-requires c κs =
     let e = c.before in
-    let x = e.before.before in
+    let x = e.before in
     let a = x.before.before.before.args in
-    input_asks a.n a.set a.t.now (length a.room.now) x.look-input.ensures e.enum_told.given.1
+    input_asks a.n a.set a.t.now (length a.room.now) x.look_input-look.ensures e.in-Pass.is
 
-enum-known-look : tie.Need-enum-known-look
+enum-known-look : tie.Need-enum_known-look
 enum-known-look c = search rules
 
-same_length : tie.Need-same-length
+same_length : tie.Need-shape_of-room
 same_length c = search rules
 
-returns : tie.Need-returns
+returns : tie.Need-returns-in-Pass
 returns c =
     let r = c.before.before in
     let e = r.before.before in
-    let x = e.before.before in
+    let x = e.before in
     let a = x.before.before.before.args in
-    vetoes a.n a.set a.t.now a.room.now r.raise.result r.raise.new.1.1.1.0 (sym x.look-input.ensures ∙ e.enum_told.given.1) r.raise.ensures
+    vetoes a.n a.set a.t.now a.room.now r.raise.result r.raise.new.room (sym x.look_input-look.ensures ∙ e.in-Pass.is) r.raise.ensures
 
-returns_2 : tie.Need-returns-2
+returns_2 : tie.Need-returns-in-Refuse
 returns_2 c =
-    let k = c.before in
-    let x = k.before.before in
+    let k = c in
+    let x = k.before in
     let a = x.before.before.before.args in
-    vetoes-not a.n a.set a.t.now a.room.now _ (sym x.look-input.ensures ∙ k.look.given.1)
+    vetoes-not a.n a.set a.t.now a.room.now _ (sym x.look_input-look.ensures ∙ k.in-Refuse.is)
 
-pub veto-spec : {M : Type 1} → statement M
-veto-spec =
+pub veto_spec : {M : Type 1} → statement M
+veto_spec =
     tie.close
     (tie.spec
     look-input-requires

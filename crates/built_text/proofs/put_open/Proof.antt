@@ -38,8 +38,8 @@ module _ (b : tie.After-body-length) where
   abbrev done : tie.After-a
   done = b.before.before
 
-  room_fits : b.body_length_lem.result ≤ length (room done)
-  room_fits = omega (arith, fits done, b.body_length_lem.ensures, done.before.before.room2.given)
+  room_fits : b.body_length.result ≤ length (room done)
+  room_fits = omega (arith, fits done, b.body_length.ensures, done.before.before.room2.given)
 
 body-length-requires : tie.Need-body-length-requires
 body-length-requires c κs = omega (arith, fits c.before)
@@ -56,7 +56,7 @@ put-tree-requires c κs =
     let k = done b in
     let s = st k in
     let x = (built k).veto.ensures in
-    open_body s.args.n s.args.set s.args.t.now _ _ x.is x.holds (w k) k.a.given.1 _ b.body_length_lem.ensures
+    open_body s.args.n s.args.set s.args.t.now _ _ x.is x.holds (w k) k.a.given.1 _ b.body_length.ensures
 
 returns : tie.Need-returns
 returns c =
@@ -65,7 +65,7 @@ returns c =
     let k = done b in
     let s = (st k).args in
     let x = (built k).veto.ensures in
-    let told = open_done s.n s.set s.t.now _ _ x.is x.holds (w k) k.a.given.1 _ b.body_length_lem.ensures in
+    let told = open_done s.n s.set s.t.now _ _ x.is x.holds (w k) k.a.given.1 _ b.body_length.ensures in
     writes_as told d.put-tree.ensures
 
 returns_2 : tie.Need-returns-2

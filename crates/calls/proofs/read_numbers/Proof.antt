@@ -5,45 +5,45 @@ use Rattle.calls.proofs.Written.{numbers-front}
 use Rattle.calls.proofs.read_numbers.Statement.{statement}
 use Rattle.calls.proofs.read_numbers.Tie as tie
 
-slice-aggregate-fetch : tie.Need-slice-aggregate-fetch
+slice-aggregate-fetch : tie.Need-slice_bounds-fetch-end
 slice-aggregate-fetch c = search rules
 
-mul-fetch : tie.Need-overflow-mul-fetch
+mul-fetch : tie.Need-overflow_mul-k
 mul-fetch c = search rules
 
-fetch-requires : tie.Need-fetch-requires
+fetch-requires : tie.Need-fetch-left-requires
 fetch-requires c κs = search rules
 
-slice-aggregate-eight : tie.Need-slice-aggregate-eight
+slice-aggregate-eight : tie.Need-slice_bounds-eight-end
 slice-aggregate-eight c = search rules
 
 eight-requires : tie.Need-eight-requires
 eight-requires c κs = search rules
 
-slice-aggregate-eight-2 : tie.Need-slice-aggregate-eight-2
+slice-aggregate-eight-2 : tie.Need-slice_bounds-eight-end-2
 slice-aggregate-eight-2 c = search rules
 
 eight-requires-2 : tie.Need-eight-requires-2
 eight-requires-2 c κs = search rules
 
-slice-aggregate-eight-3 : tie.Need-slice-aggregate-eight-3
+slice-aggregate-eight-3 : tie.Need-slice_bounds-eight-end-3
 slice-aggregate-eight-3 c = search rules
 
 eight-requires-3 : tie.Need-eight-requires-3
 eight-requires-3 c κs = search rules
 
-same_length : tie.Need-same-length
+same_length : tie.Need-shape_of-buffer
 same_length c = search rules
 
 returns : tie.Need-returns
 returns c =
     let s = c.before.before.before.before.before.before.before.before.before.before.before.before.before in
-    let f = c.before.before.before.before.before.before.before.before.before.fetch in
-    let d = f.new.1.1.0 in
-    some_took f.ensures (numbers-front s.args.k c.before.before.before.before.eight.result c.before.before.eight2.result c.eight3.result d s.requires.1 f.auto.1.1.0 c.before.before.before.before.eight.ensures c.before.before.eight2.ensures c.eight3.ensures)
+    let f = c.before.before.before.before.before.before.before.before.before.fetch-left in
+    let d = f.new.to in
+    some_took f.ensures (numbers-front s.args.k c.before.before.before.before.eight.result c.before.before.eight-2.result c.eight-3.result d s.requires.1 f.auto.to c.before.before.before.before.eight.ensures c.before.before.eight-2.ensures c.eight-3.ensures)
 
-pub read-numbers-spec : {M : Type 1} → statement M
-read-numbers-spec =
+pub read_numbers_spec : {M : Type 1} → statement M
+read_numbers_spec =
     tie.close
     (tie.spec
     slice-aggregate-fetch

@@ -18,7 +18,7 @@ use Rattle.checking.proofs.check.Tie as tie
 abbrev answer : Look → Answer
 answer k = answered (λ (a : Answer). a) Refused k Passes
 
-module _ (c : tie.After-look-candidate) where
+module _ (c : tie.After-look_candidate-look) where
   abbrev n : ℕ
   n = c.before.before.before.args.n
 
@@ -31,37 +31,37 @@ module _ (c : tie.After-look-candidate) where
   abbrev early : List Look
   early = candidate_looks n t body
 
-passed : (c : tie.After-enum-told) → Count (n c.before.before) × Body (n c.before.before) (body c.before.before)
+passed : (c : tie.In-Pass) → Count (n c.before) × Body (n c.before) (body c.before)
 passed c =
-    let x = c.before.before in
-    candidate_pass (n x) (t x) (body x) (sym x.look-candidate.ensures ∙ c.enum_told.given.1)
+    let x = c.before in
+    candidate_pass (n x) (t x) (body x) (sym x.look_candidate-look.ensures ∙ c.in-Pass.is)
 
-look-candidate-requires : tie.Need-look-candidate-requires
+look-candidate-requires : tie.Need-look_candidate-look-requires
 look-candidate-requires c κs = search rules
 
-enum_told : tie.Need-enum-told
+enum_told : tie.Need-enum_told-1
 enum_told c = search rules
 
 judge-requires : tie.Need-judge-requires
 judge-requires c κs = let p = passed c in (p.0.most, p.1.good, p.1.long)
 
-enum-known-look : tie.Need-enum-known-look
+enum-known-look : tie.Need-enum_known-look
 enum-known-look c = search rules
 
-returns : tie.Need-returns
+returns : tie.Need-returns-in-Pass
 returns c =
     let e = c.before in
-    let x = e.before.before in
-    c.judge.ensures ∙ ap answer (sym (first_on (early x) (triples_looks (n x) (t x) (tree_of (body x))) (sym x.look-candidate.ensures ∙ e.enum_told.given.1)))
+    let x = e.before in
+    c.judge.ensures ∙ ap answer (sym (first_on (early x) (triples_looks (n x) (t x) (tree_of (body x))) (sym x.look_candidate-look.ensures ∙ e.in-Pass.is)))
 
-returns_2 : tie.Need-returns-2
+returns_2 : tie.Need-returns-in-Refuse
 returns_2 c =
-    let k = c.before in
-    let x = k.before.before in
-    ap answer (sym (first_stop (early x) (triples_looks (n x) (t x) (tree_of (body x))) _ (sym x.look-candidate.ensures ∙ k.look.given.1)))
+    let k = c in
+    let x = k.before in
+    ap answer (sym (first_stop (early x) (triples_looks (n x) (t x) (tree_of (body x))) _ (sym x.look_candidate-look.ensures ∙ k.in-Refuse.is)))
 
-pub check-spec : {M : Type 1} → statement M
-check-spec =
+pub check_spec : {M : Type 1} → statement M
+check_spec =
     tie.close
     (tie.spec
     look-candidate-requires

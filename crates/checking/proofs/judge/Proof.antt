@@ -22,7 +22,7 @@ use Rattle.answers.proofs.Answered.{first_stop, then_nothing}
 use Rattle.answers.specs.Looks.{answered}
 use Rattle.answers.specs.declared.Look.{Look}
 use Rattle.answers.specs.declared.Look.TheVariants.{Pass}
-use Rattle.checking.specs.Checks.{look_pC, look_pI}
+use Rattle.checking.specs.Checks.{look_pc, look_pi}
 use Rattle.checking.specs.declared.Answer.{Answer}
 use Rattle.checking.specs.declared.Answer.TheVariants.{Passes, Refused}
 use Rattle.checking.proofs.Judged.{candidate, formed, good_64, is_earned, is_sure, is_unforced, nothing_differs, some_nodes, within}
@@ -33,7 +33,7 @@ abbrev answer : Look → Answer
 answer k = answered (λ (a : Answer). a) Refused k Passes
 
 -- once the groups are there
-module _ (c : tie.After-meets2) where
+module _ (c : tie.After-meets-2-1) where
   abbrev st : tie.Start
   st = c.before.before.before.before.before.before
 
@@ -49,33 +49,33 @@ module _ (c : tie.After-meets2) where
   abbrev T : Tree
   T = tree_of body
 
-  meant : Candidate n T c.before.draw.result c.before.draw.new.1.1.0
-  meant = candidate n body st.pre.0 st.pre.1 st.pre.2 c.before.draw.ensures.1
+  meant : Candidate n T c.before.draw-whole.result c.before.draw-whole.new.meets
+  meant = candidate n body st.requires.0 st.requires.1 st.requires.2 c.before.draw-whole.ensures.1
 
   well : So (well_formed T)
-  well = formed n body st.pre.0 st.pre.1 st.pre.2
+  well = formed n body st.requires.0 st.requires.1 st.requires.2
 
   low : Below n (under T)
-  low = within n body st.pre.0 st.pre.1 st.pre.2
+  low = within n body st.requires.0 st.requires.1 st.requires.2
 
-looked : (c : tie.After-look-pc) → c.look-pc.result ≡ look_pC (n c.before) (t c.before) (T c.before)
-looked c = c.look-pc.ensures (T c.before) (meant c.before)
+looked : (c : tie.After-look_pc-look) → c.look_pc-look.result ≡ look_pc (n c.before) (t c.before) (T c.before)
+looked c = c.look_pc-look.ensures (T c.before) (meant c.before)
 
 -- nothing differs
-module _ (c : tie.After-enum-told) where
-  abbrev p : tie.After-meets2
-  p = c.before.before.before
+module _ (c : tie.In-Pass) where
+  abbrev p : tie.After-meets-2-1
+  p = c.before.before
 
-  none : look_pC (n p) (t p) (T p) ≡ Pass
-  none = sym (looked c.before.before) ∙ c.enum_told.given.1
+  none : look_pc (n p) (t p) (T p) ≡ Pass
+  none = sym (looked c.before) ∙ c.in-Pass.is
 
 -- and what is entered on the triples that the tree resolves is in the masks
 module _ (c : tie.After-relate) where
-  abbrev q : tie.After-enum-told
+  abbrev q : tie.In-Pass
   q = c.before.before.before
 
   abbrev masks : List ℕ
-  masks = c.relate.new.1.1.1.1.0
+  masks = c.relate.new.masks
 
   related : Masks (R (entered (t (p q))) (T (p q))) masks
   related = c.relate.ensures.1 (T (p q)) (meant (p q))
@@ -83,18 +83,18 @@ module _ (c : tie.After-relate) where
   rp : Proper (R (entered (t (p q))) (T (p q)))
   rp = R-proper (entered (t (p q))) (entered_proper (t (p q))) (T (p q))
 
-draw-requires : tie.Need-draw-requires
+draw-requires : tie.Need-draw-whole-requires
 draw-requires c κs =
     let s = c.before.before.before.before in
     (good_64 s.args.n s.args.body.now s.requires.0 s.requires.1 s.requires.2, (some_nodes s.args.n s.args.body.now s.requires.0 s.requires.1 s.requires.2, search rules))
 
-look-pc-requires : tie.Need-look-pc-requires
+look-pc-requires : tie.Need-look_pc-look-requires
 look-pc-requires c κs = ((st c).requires.0, (T c, meant c))
 
-enum-known-look : tie.Need-enum-known-look
+enum-known-look : tie.Need-enum_known-look
 enum-known-look c = search rules
 
-enum_told : tie.Need-enum-told
+enum_told : tie.Need-enum_told-1
 enum_told c = search rules
 
 relate-requires : tie.Need-relate-requires
@@ -103,73 +103,73 @@ relate-requires c κs = search rules
 earned-requires : tie.Need-earned-requires
 earned-requires c κs =
     let x = p (q c.before.before) in (
-      good_64 (n x) (body x) (st x).pre.0 (st x).pre.1 (st x).pre.2,
-      (x.before.draw.ensures.0, some_nodes (n x) (body x) (st x).pre.0 (st x).pre.1 (st x).pre.2),
+      good_64 (n x) (body x) (st x).requires.0 (st x).requires.1 (st x).requires.2,
+      (x.before.draw-whole.ensures.0, some_nodes (n x) (body x) (st x).requires.0 (st x).requires.1 (st x).requires.2),
     )
 
-returns : tie.Need-returns
+returns : tie.Need-returns-then-earned
 returns c =
     let e = c.before in
     let r = e.before.before.before in
     let x = p (q r) in
-    is_earned (n x) (t x) (T x) (well x) (low x) (none (q r)) ((e.earned.ensures (R (entered (t x)) (T x)) (rp r) (related r)).0 c.if1.true)
+    is_earned (n x) (t x) (T x) (well x) (low x) (none (q r)) ((e.earned.ensures (R (entered (t x)) (T x)) (rp r) (related r)).0 c.if-earned.true)
 
 -- after the search for a triplet that is not forced
-module _ (u : tie.After-first-unforced) where
+module _ (u : tie.After-first_unforced-loose) where
   abbrev related-at : tie.After-relate
   related-at = u.before.before.before.before.before.before.before
 
-  searched : let x = p (q related-at) in Finds (n x) (unsure (entered (t x)) (n x) (T x)) u.first-unforced.result
+  searched : let x = p (q related-at) in Finds (n x) (unsure (entered (t x)) (n x) (T x)) u.first_unforced-loose.result
   searched =
       let x = p (q related-at) in
-      u.first-unforced.ensures (entered (t x)) (T x) (record {
-        few = (st x).pre.0;
+      u.first_unforced-loose.ensures (entered (t x)) (T x) (record {
+        few = (st x).requires.0;
         proper = entered_proper (t x);
         tree = meant x;
         masked = related related-at;
         none = nothing_differs (n x) (t x) (T x) (well x) (low x) (none (q related-at));
       })
 
-loose : (d : tie.After-loose) → let x = p (q (related-at d.before.before)) in Hit (n x) (unsure (entered (t x)) (n x) (T x)) d.loose.given.0.0
+loose : (d : tie.In-At) → let x = p (q (related-at d.before)) in Hit (n x) (unsure (entered (t x)) (n x) (T x)) d.in-At.x
 loose d =
-    let x = p (q (related-at d.before.before)) in
-    subst (λ (z : Found). Finds (n x) (unsure (entered (t x)) (n x) (T x)) z) d.loose.given.1 (searched d.before.before)
+    let x = p (q (related-at d.before)) in
+    subst (λ (z : Found). Finds (n x) (unsure (entered (t x)) (n x) (T x)) z) d.in-At.is (searched d.before)
 
-first-unforced-requires : tie.Need-first-unforced-requires
+first-unforced-requires : tie.Need-first_unforced-loose-requires
 first-unforced-requires c κs = search rules
 
-enum-known-loose : tie.Need-enum-known-loose
+enum-known-loose : tie.Need-enum_known-loose
 enum-known-loose c = search rules
 
 index-requires : tie.Need-index-requires
-index-requires c κs = let h = loose c.before in (h.low_mid, h.mid_high, omega (arith, h.high_below, (st (p (q (related-at c.before.before.before)))).pre.0))
+index-requires c κs = let h = loose c in (h.low_mid, h.mid_high, omega (arith, h.high_below, (st (p (q (related-at c.before)))).requires.0))
 
-enum-told-2 : tie.Need-enum-told-2
+enum-told-2 : tie.Need-enum_told-in-Nowhere
 enum-told-2 c = search rules
 
-returns_2 : tie.Need-returns-2
+returns_2 : tie.Need-returns-in-Refuse
 returns_2 c =
-    let k = c.before.before.before in
+    let k = c.before in
     let p = k.before in
-    ap answer (sym (first_stop (look_pC (n p) (t p) (T p) ∷ []) (look_pI (n p) (t p) (T p) ∷ []) _ (then_nothing _ ∙ sym (looked k) ∙ c.before.look.given.1)))
+    ap answer (sym (first_stop (look_pc (n p) (t p) (T p) ∷ []) (look_pi (n p) (t p) (T p) ∷ []) _ (then_nothing _ ∙ sym (looked k) ∙ c.in-Refuse.is)))
 
-returns_3 : tie.Need-returns-3
+returns_3 : tie.Need-returns-in-At
 returns_3 c =
-    let d = c.before.before in
-    let u = d.before.before in
+    let d = c.before in
+    let u = d.before in
     let r = related-at u in
     let x = p (q r) in
-    is_unforced (n x) (t x) (T x) (well x) (low x) (none (q r)) d.loose.given.0.0 (loose d) _ c.index.ensures
+    is_unforced (n x) (t x) (T x) (well x) (low x) (none (q r)) d.in-At.x (loose d) _ c.index.ensures
 
-returns_4 : tie.Need-returns-4
+returns_4 : tie.Need-returns-in-Nowhere
 returns_4 c =
-    let u = c.before.before in
+    let u = c.before in
     let r = related-at u in
     let x = p (q r) in
-    is_sure (n x) (t x) (T x) (well x) (low x) (none (q r)) (subst (λ (z : Found). Finds (n x) (unsure (entered (t x)) (n x) (T x)) z) c.enum-told2.given.1 (searched u))
+    is_sure (n x) (t x) (T x) (well x) (low x) (none (q r)) (subst (λ (z : Found). Finds (n x) (unsure (entered (t x)) (n x) (T x)) z) c.in-Nowhere.is (searched u))
 
-pub judge-spec : {M : Type 1} → statement M
-judge-spec =
+pub judge_spec : {M : Type 1} → statement M
+judge_spec =
     tie.close
     (tie.spec
     draw-requires

@@ -14,7 +14,7 @@ use Rattle.checking.proofs.Judged.{is_agreed, is_contradicted}
 use Rattle.checking.proofs.look_pc.Statement.{statement}
 use Rattle.checking.proofs.look_pc.Tie as tie
 
-module _ (c : tie.After-first-contradiction) where
+module _ (c : tie.After-first_contradiction-differs) where
   abbrev st : tie.Start
   st = c.before.before
 
@@ -28,41 +28,41 @@ module _ (c : tie.After-first-contradiction) where
   Fits T = Candidate n T st.args.whole st.args.meets.now
 
 -- where a triple was found
-differing : (c : tie.After-differs) (T : Tree) → Fits c.before.before T → Hit (n c.before.before) (differs (entered (t c.before.before)) T) c.differs.given.0.0
-differing c T m = let p = c.before.before in subst (λ (r : Found). Finds (n p) (differs (entered (t p)) T) r) c.differs.given.1 (p.first-contradiction.ensures T m)
+differing : (c : tie.In-At) (T : Tree) → Fits c.before T → Hit (n c.before) (differs (entered (t c.before)) T) c.in-At.x
+differing c T m = let p = c.before in subst (λ (r : Found). Finds (n p) (differs (entered (t p)) T) r) c.in-At.is (p.first_contradiction-differs.ensures T m)
 
 -- so it was for the tree that the caller has
-found : (c : tie.After-differs) → let T = (st c.before.before).pre.1.0 in Hit (n c.before.before) (differs (entered (t c.before.before)) T) c.differs.given.0.0
-found c = let s = st c.before.before in differing c s.pre.1.0 s.pre.1.1
+found : (c : tie.In-At) → let T = (st c.before).requires.1.0 in Hit (n c.before) (differs (entered (t c.before)) T) c.in-At.x
+found c = let s = st c.before in differing c s.requires.1.0 s.requires.1.1
 
-first-contradiction-requires : tie.Need-first-contradiction-requires
+first-contradiction-requires : tie.Need-first_contradiction-differs-requires
 first-contradiction-requires c κs = search rules
 
-enum-known-differs : tie.Need-enum-known-differs
+enum-known-differs : tie.Need-enum_known-differs
 enum-known-differs c = search rules
 
 index-requires : tie.Need-index-requires
-index-requires c κs = let h = found c.before in (h.low_mid, h.mid_high, omega (arith, h.high_below, (st c.before.before.before).pre.0))
+index-requires c κs = let h = found c in (h.low_mid, h.mid_high, omega (arith, h.high_below, (st c.before).requires.0))
 
 byte-requires : tie.Need-byte-requires
-byte-requires c κs = let h = found c.before.before in (h.low_mid, h.mid_high, omega (arith, h.high_below, (st c.before.before.before.before).pre.0))
+byte-requires c κs = let h = found c.before in (h.low_mid, h.mid_high, omega (arith, h.high_below, (st c.before.before).requires.0))
 
-enum_told : tie.Need-enum-told
+enum_told : tie.Need-enum_told-1
 enum_told c = search rules
 
-returns : tie.Need-returns
+returns : tie.Need-returns-in-At
 returns c T m =
-    let d = c.before.before.before in
-    let p = d.before.before in
-    is_contradicted (n p) (t p) T m.drawn.formed m.below d.differs.given.0.0 (differing d T m) _ _ c.before.index.ensures c.byte.ensures.is
+    let d = c.before.before in
+    let p = d.before in
+    is_contradicted (n p) (t p) T m.drawn.formed m.below d.in-At.x (differing d T m) _ _ c.before.index.ensures c.byte.ensures.is
 
-returns_2 : tie.Need-returns-2
+returns_2 : tie.Need-returns-in-Nowhere
 returns_2 c T m =
-    let p = c.before.before in
-    is_agreed (n p) (t p) T m.drawn.formed m.below (subst (λ (r : Found). Finds (n p) (differs (entered (t p)) T) r) c.enum_told.given.1 (p.first-contradiction.ensures T m))
+    let p = c.before in
+    is_agreed (n p) (t p) T m.drawn.formed m.below (subst (λ (r : Found). Finds (n p) (differs (entered (t p)) T) r) c.in-Nowhere.is (p.first_contradiction-differs.ensures T m))
 
-pub look-pc-spec : {M : Type 1} → statement M
-look-pc-spec =
+pub look_pc_spec : {M : Type 1} → statement M
+look_pc_spec =
     tie.close
     (tie.spec
     first-contradiction-requires

@@ -10,7 +10,7 @@ groups-requires c κs =
     let s = c.before.before in
     (s.requires.0, ((length_good s.args.body.now s.requires.1).1, refl))
 
-array-read-result : tie.Need-array-read-result
+array-read-result : tie.Need-bounds-g-0
 array-read-result c = search rules
 
 returns : tie.Need-returns
@@ -18,5 +18,5 @@ returns c =
     let s = c.before.before.before in
     c.groups.ensures.group 0 (length_good s.args.body.now s.requires.1).0
 
-pub tree-set-spec : {M : Type 1} → statement M
-tree-set-spec = tie.close (tie.spec groups-requires array-read-result returns)
+pub tree_set_spec : {M : Type 1} → statement M
+tree_set_spec = tie.close (tie.spec groups-requires array-read-result returns)

@@ -82,34 +82,34 @@ module _ (k : ℕ) where
   down c = c.before.before.before.before
 
   -- a leaf's text is its species number
-  leaf_told : (c : At put-lts.Then1 k) → decimal c.before.species.result ≡ text_at (nodes (entry c.before.before).args.body.now) (has (entry c.before.before).args.set) (entry c.before.before).args.i
+  leaf_told : (c : At put-lts.Then-s k) → decimal c.before.species.result ≡ text_at (nodes (entry c.before.before).args.body.now) (has (entry c.before.before).args.set) (entry c.before.before).args.i
   leaf_told c =
       let sp = c.before in
       let S = entry sp.before in
       ap decimal sp.species.ensures
-      ∙ leaf_text (nodes S.args.body.now) S.pre.1.0 (has S.args.set) sp.before.descend.ensures S.pre.1.1.1.1 (λ z. c.if1.true (sp.species.ensures ∙ z))
+      ∙ leaf_text (nodes S.args.body.now) S.requires.1.0 (has S.args.set) sp.before.descend.ensures S.requires.1.1.1.1 (λ z. c.if1.true (sp.species.ensures ∙ z))
 
   -- the child that was found is the next one
-  next_child : (c : At put-lts.After-child-with k) → Next c.before.before.before.loop.invariant c.child-with.result
+  next_child : (c : At put-lts.After-child_with-c k) → Next c.before.before.before.loop.invariant c.child-with.result
   next_child c =
       let x = c.before in
       let l = x.before.before in
       let S = entry (down l) in
-      todo_next (nodes S.args.body.now) S.pre.1.0 (has S.args.set) S.args.groups.now S.pre.1.1.0 l.loop.invariant
+      todo_next (nodes S.args.body.now) S.requires.1.0 (has S.args.set) S.args.groups.now S.requires.1.1.0 l.loop.invariant
       x.before.loop-test.true x.lowest.result x.lowest.ensures c.child-with.result c.child-with.ensures
 
   -- its number is one of an entry
-  child_few : (c : At put-lts.After-child-with k) → c.child-with.result < 127
-  child_few c = omega (arith, (next_child c).within, (entry (down c.before.before.before)).pre.1.1.1.0.1)
+  child_few : (c : At put-lts.After-child_with-c k) → c.child-with.result < 127
+  child_few c = omega (arith, (next_child c).within, (entry (down c.before.before.before)).requires.1.1.1.0.1)
 
-  child_touched : (c : At put-lts.Then2 k) → Touches (has (entry (down c.before.before.before.before.before.before)).args.set)
+  child_touched : (c : At put-lts.Then-s k) → Touches (has (entry (down c.before.before.before.before.before.before)).args.set)
       (subtree (nodes (entry (down c.before.before.before.before.before.before)).args.body.now) c.before.before.before.child-with.result)
   child_touched c =
       let x = c.before.before.before in
       let S = entry (down x.before.before.before) in
       let h = (next_child x).within in
-      meet_touches (subtree (nodes S.args.body.now) x.child-with.result) (subtree-below 64 (nodes S.args.body.now) S.pre.1.0 x.child-with.result h) _
-      (S.pre.1.1.0.group x.child-with.result h) S.args.set
+      meet_touches (subtree (nodes S.args.body.now) x.child-with.result) (subtree-below 64 (nodes S.args.body.now) S.requires.1.0 x.child-with.result h) _
+      (S.requires.1.1.0.group x.child-with.result h) S.args.set
       (λ z. c.if2.true (c.before.meet.ensures ∙ z))
 
   -- the species that are left once the child was passed
@@ -118,32 +118,32 @@ module _ (k : ℕ) where
   off c =
       let x = c.before.before.before.before.before in
       let l = x.before.before.before in
-      c.minus.ensures ∙ ap (minus l.loop.rest) ((entry (down l)).pre.1.1.0.group x.child-with.result (next_child x).within)
+      c.minus.ensures ∙ ap (minus l.loop.rest) ((entry (down l)).requires.1.1.0.group x.child-with.result (next_child x).within)
 
   descend_requires : At put-lts.Need-descend-requires k
   descend_requires c κs = let S = c.before.before in (S.requires.1.0, (S.requires.1.1.0, S.requires.1.1.1.0))
 
-  species_requires : At put-lts.Need-species-requires k
+  species_requires : At put-lts.Need-species-s-requires k
   species_requires c κs = c.descend.ensures.within
 
   returns : At put-lts.Need-returns k
   returns c = let d = c.before.before in writes_as (leaf_told d.before.before) d.put-decimal.ensures
 
   mul-rest : At put-lts.Need-overflow-mul-rest k
-  mul-rest c = omega (arith, c.before.before.descend.ensures.within, (entry c.before.before).pre.1.1.1.0)
+  mul-rest c = omega (arith, c.before.before.descend.ensures.within, (entry c.before.before).requires.1.1.1.0)
 
   element_copy_out_rest : At put-lts.Need-element-copy-out-rest k
-  element_copy_out_rest c = omega (arith, c.before.before.descend.ensures.within, (entry c.before.before).pre.1.1.1.0)
+  element_copy_out_rest c = omega (arith, c.before.before.descend.ensures.within, (entry c.before.before).requires.1.1.1.0)
 
   loop_holds : At put-lts.Need-loop-init k
   loop_holds c =
       let sp = c.before.before in
       let S = entry sp.before in
-      todo_start (nodes S.args.body.now) S.pre.1.0 (has S.args.set) sp.before.descend.ensures S.pre.1.1.1.1 S.args.groups.now S.pre.1.1.0
+      todo_start (nodes S.args.body.now) S.requires.1.0 (has S.args.set) sp.before.descend.ensures S.requires.1.1.1.1 S.args.groups.now S.requires.1.1.0
       (sym sp.species.ensures ∙ c.before.if1.false) S.args.at S.args.out.now _ refl
 
-  child_with_requires : At put-lts.Need-child-with-requires k
-  child_with_requires c κs = ((entry (down c.before.before)).pre.1.1.1.0.1, c.lowest.ensures.small c.before.loop-test.true)
+  child_with_requires : At put-lts.Need-child_with-c-requires k
+  child_with_requires c κs = ((entry (down c.before.before)).requires.1.1.1.0.1, c.lowest.ensures.small c.before.loop-test.true)
 
   mul-meet : At put-lts.Need-overflow-mul-meet k
   mul-meet c = omega (arith, child_few c)
@@ -151,7 +151,7 @@ module _ (k : ℕ) where
   element_copy_out_meet : At put-lts.Need-element-copy-out-meet k
   element_copy_out_meet c = child_few c
 
-  put_requires_2 : At put-lts.Need-put-requires-2 k
+  put_requires_2 : At put-lts.Need-put-requires k
   put_requires_2 c κs =
       let p = c.before.before.before in
       let t = p.before.before in
@@ -159,13 +159,13 @@ module _ (k : ℕ) where
       let l = x.before.before.before in
       let S = entry (down l) in
       let n = next_child x in (
-        omega (arith, S.pre.0, n.later, n.within, (down l).descend.ensures.later),
+        omega (arith, S.requires.0, n.later, n.within, (down l).descend.ensures.later),
         (
-          S.pre.1.0,
+          S.requires.1.0,
           (
-            S.pre.1.1.0,
+            S.requires.1.1.0,
             (
-              (n.within, S.pre.1.1.1.0.1),
+              (n.within, S.requires.1.1.1.0.1),
               child_touched t,
             ),
           ),
@@ -193,23 +193,23 @@ module _ (k : ℕ) where
       ⊎_elim
       (λ w. todo_as w.9 w.10 w.11 (n.touched (child_touched (record { before = c.before.before.before; if2 = w.0 })) _ _ _ _ _ w.2.ensures w.6.ensures (off c)))
       (λ w. todo_as w.1 w.2 w.3 (n.passed (meet_empty (subtree (nodes S.args.body.now) x.child-with.result)
-      (subtree-below 64 (nodes S.args.body.now) S.pre.1.0 x.child-with.result n.within) _ (S.pre.1.1.0.group x.child-with.result n.within) S.args.set (sym c.before.before.before.meet.ensures ∙ w.0.left)) _ (off c)))
-      c.before.before.if2.branch
+      (subtree-below 64 (nodes S.args.body.now) S.requires.1.0 x.child-with.result n.within) _ (S.requires.1.1.0.group x.child-with.result n.within) S.args.set (sym c.before.before.before.meet.ensures ∙ w.0.left)) _ (off c)))
+      c.before.before.if2.branch-raw
 
   same_length_2 : At put-lts.Need-same-length-2 k
   same_length_2 c =
       let p = c.before.before in
       p.put3.ensures.kept ∙ p.before.before.before.loop.invariant.wrote.kept
 
-  returns_2 : At put-lts.Need-returns-2 k
+  returns_2 : At put-lts.Need-returns k
   returns_2 c =
       let p = c.before.before in
       let a = p.before.before in
       let l = a.before in
       let S = entry (down l) in
       let v = nodes S.args.body.now in
-      writes_as (same_text v S.pre.1.0 (has S.args.set) (down l).descend.ensures S.pre.1.1.1.1)
-      (todo_end v S.pre.1.0 (has S.args.set) l.loop.invariant a.loop-test.false _ _ p.put3.ensures)
+      writes_as (same_text v S.requires.1.0 (has S.args.set) (down l).descend.ensures S.requires.1.1.1.1)
+      (todo_end v S.requires.1.0 (has S.args.set) l.loop.invariant a.loop-test.false _ _ p.put3.ensures)
 
 pub +put-spec : {M : Type 1} → statement M
 +put-spec = close μ_put λ t. put-lts.spec (calls t)

@@ -6,7 +6,6 @@ use Prim.Native.Nat.{◌-◌, ◌<◌, ℕ}
 use native.Mathlib.Omega.{arith}
 use borrow.Author.Count.{below_more}
 use borrow.Author.Rules.{rules}
-use borrow.Author.Tests.{eqb-false, eqb-true, not-false, not-true}
 use Rattle.trees.specs.Triplets.{Proper, Triplets}
 use Rattle.bodies.specs.Nodes.{nodes}
 use Rattle.masks.specs.Masks.{Masks}
@@ -15,39 +14,39 @@ use Rattle.earned.proofs.Earning.{group_some, group_told}
 use Rattle.earned.proofs.beside_all.Statement.{statement}
 use Rattle.earned.proofs.beside_all.Tie as tie
 
-abbrev invariant-loop : tie.invariant-loop
+abbrev invariant-loop : tie.invariant-loop-j
 invariant-loop body groups masks i count above j₀ j =
     (0 < j) × ((E : Triplets) → Proper E → Masks E masks → (k : ℕ) → k < j → Beside E (nodes body) i k)
 
-abbrev decreases-loop : tie.decreases-loop
+abbrev decreases-loop : tie.decreases-loop-j
 decreases-loop body groups masks i count above j₀ j = count - j
 
 -- the node of this turn is one of the body's
-node : (l : tie.In-loop invariant-loop decreases-loop) → l.before.loop.j < (nodes l.before.before.before.before.before.args.body.now).count
-node l = omega (arith, l.loop-test.true, l.before.before.before.number_of_nodes.ensures)
+node : (l : tie.In-loop-j invariant-loop decreases-loop) → l.before.loop-j.j < (nodes l.before.before.before.before.before.args.body.now).count
+node l = omega (arith, l.loop-j-test.true, l.before.before.before.node_count-count.ensures)
 
-node-count-requires : tie.Need-node-count-requires invariant-loop decreases-loop
+node-count-requires : tie.Need-node_count-count-requires invariant-loop decreases-loop
 node-count-requires c κs = search rules
 
-parent-requires : tie.Need-parent-requires invariant-loop decreases-loop
+parent-requires : tie.Need-parent-above-requires invariant-loop decreases-loop
 parent-requires c κs = search rules
 
-loop_holds : tie.Need-loop-init invariant-loop decreases-loop
+loop_holds : tie.Need-loop-j-init invariant-loop decreases-loop
 loop_holds c = (search rules, λ E pr m k lt p. absurd (omega arith))
 
-parent-requires-2 : tie.Need-parent-requires-2 invariant-loop decreases-loop
+parent-requires-2 : tie.Need-parent-requires invariant-loop decreases-loop
 parent-requires-2 c κs = search rules
 
-mul-beside : tie.Need-overflow-mul-beside invariant-loop decreases-loop
+mul-beside : tie.Need-offset_bounds-groups-i invariant-loop decreases-loop
 mul-beside c = search rules
 
-element-copy-out-beside : tie.Need-element-copy-out-beside invariant-loop decreases-loop
+element-copy-out-beside : tie.Need-bounds-groups-i invariant-loop decreases-loop
 element-copy-out-beside c = search rules
 
-mul-beside-2 : tie.Need-overflow-mul-beside-2 invariant-loop decreases-loop
+mul-beside-2 : tie.Need-offset_bounds-groups-j invariant-loop decreases-loop
 mul-beside-2 c = search rules
 
-element-copy-out-beside-2 : tie.Need-element-copy-out-beside-2 invariant-loop decreases-loop
+element-copy-out-beside-2 : tie.Need-bounds-groups-j invariant-loop decreases-loop
 element-copy-out-beside-2 c = search rules
 
 beside-requires : tie.Need-beside-requires invariant-loop decreases-loop
@@ -55,55 +54,53 @@ beside-requires c κs =
     let s = c.before.before.before.before.before.before.before.before.before.before in
     group_some _ s.requires.0 _ s.requires.1.0 _ s.requires.1.1.0
 
-returns : tie.Need-returns invariant-loop decreases-loop
+returns : tie.Need-returns-then-not-beside invariant-loop decreases-loop
 returns c =
-    let b = c.before in
-    let t = b.before.before.before.before in
-    let l = t.before.before in
-    let s = l.before.before.before.before.before in
+    let l = c.before.before.before.before.before.before.before.before in
+    let s = c.requires in
     λ E pr m. record {
       joined = λ e. absurd (false≢true e);
       apart = λ _. record {
-        sibling = l.before.loop.j;
-        later = l.before.loop.invariant.0;
+        sibling = c.loop-j.j;
+        later = c.loop-j.invariant.0;
         within = node l;
-        other = λ e. omega (arith, e, t.before.if1.true);
-        parent = sym t.parent2.ensures ∙ eqb-true _ _ b.before.before.before.if2.true ∙ l.before.before.parent.ensures;
+        other = λ e. omega (arith, e, c.if-j-i.true);
+        parent = sym c.parent.ensures ∙ c.if-parent-above.true ∙ c.parent-above.ensures;
         split = λ k.
-            let e = (group_told _ s.requires.0 _ s.requires.1.0 E b.beside.result _ _ s.requires.1.1.0 (node l) (b.beside.ensures E pr m)).1 k in
-            false≢true (sym (not-true b.beside.result c.if3.true) ∙ e);
+            let e = (group_told _ s.0 _ s.1.0 E c.beside.result _ _ s.1.1.0 (node l) (c.beside.ensures E pr m)).1 k in
+            false≢true (sym c.if-not-beside.true ∙ e);
       };
     }
 
-add-j : tie.Need-overflow-add-j invariant-loop decreases-loop
+add-j : tie.Need-overflow_add-j invariant-loop decreases-loop
 add-j c = search rules
 
-loop_less : tie.Need-loop-smaller invariant-loop decreases-loop
+loop_less : tie.Need-loop-j-smaller invariant-loop decreases-loop
 loop_less c = search rules
 
-loop_again : tie.Need-loop-preserved invariant-loop decreases-loop
+loop_again : tie.Need-loop-j-preserved invariant-loop decreases-loop
 loop_again c =
     let l = c.before in
     let s = l.before.before.before.before.before in (
       omega arith,
-      λ E pr m. below_more (Beside E _ s.args.i) l.before.loop.j (l.before.loop.invariant.1 E pr m) (⊎_elim
-          (λ w _ _ _ _. (group_told _ s.requires.0 _ s.requires.1.0 E w.5.result _ _ s.requires.1.1.0 (node l) (w.5.ensures E pr m)).0 (not-false _ w.6.left))
+      λ E pr m. below_more (Beside E _ s.args.i) l.before.loop-j.j (l.before.loop-j.invariant.1 E pr m) (⊎_elim
+          (λ w _ _ _ _. (group_told _ s.requires.0 _ s.requires.1.0 E w.beside.result _ _ s.requires.1.1.0 (node l) (w.beside.ensures E pr m)).0 w.if-not-beside.false)
           (⊎_elim
-          (λ w _ _ _ e. absurd (eqb-false _ _ w.2.left (w.1.ensures ∙ e ∙ sym l.before.before.parent.ensures)))
-          (λ w _ _ ne _. absurd (omega (arith, ne, w.left))))
-          c.if1.branch),
+          (λ w _ _ _ e. absurd (w.if-parent-above.false (w.parent.ensures ∙ e ∙ sym l.before.before.parent-above.ensures)))
+          (λ w _ _ ne _. absurd (ne w.if-j-i.false)))
+          c.else-j-i.branch-raw),
     )
 
-returns_2 : tie.Need-returns-2 invariant-loop decreases-loop
+returns_2 : tie.Need-returns invariant-loop decreases-loop
 returns_2 c =
     let l = c.before in
     λ E pr m. record {
-      joined = λ _ j p q. l.loop.invariant.1 E pr m j (omega (arith, c.loop-test.false, l.before.before.number_of_nodes.ensures)) p q;
+      joined = λ _ j p q. l.loop-j.invariant.1 E pr m j (omega (arith, c.loop-j-test.false, l.before.before.node_count-count.ensures)) p q;
       apart = λ e. absurd (false≢true (sym e));
     }
 
-pub beside-all-spec : {M : Type 1} → statement M
-beside-all-spec =
+pub beside_all_spec : {M : Type 1} → statement M
+beside_all_spec =
     tie.close
     (tie.spec
     invariant-loop

@@ -5,7 +5,6 @@ use Prim.Native.Nat.{◌-◌, ◌<◌, ℕ}
 use native.Mathlib.Omega.{arith}
 use borrow.Author.Count.{below_more}
 use borrow.Author.Rules.{rules}
-use borrow.Author.Tests.{not-false, not-true}
 use Rattle.trees.specs.Triplets.{Proper, Triplets}
 use Rattle.bodies.specs.Nodes.{nodes}
 use Rattle.masks.specs.Masks.{Masks}
@@ -14,33 +13,33 @@ use Rattle.earned.proofs.Earning.{leaf_beside}
 use Rattle.earned.proofs.first_unearned.Statement.{statement}
 use Rattle.earned.proofs.first_unearned.Tie as tie
 
-abbrev invariant-loop : tie.invariant-loop
+abbrev invariant-loop : tie.invariant-loop-i
 invariant-loop body groups masks count i₀ i =
     (0 < i) × ((E : Triplets) → Proper E → Masks E masks → (k : ℕ) → k < i → 0 < k → (j : ℕ) → Beside E (nodes body) k j)
 
-abbrev decreases-loop : tie.decreases-loop
+abbrev decreases-loop : tie.decreases-loop-i
 decreases-loop body groups masks count i₀ i = count - i
 
 -- the node of this turn is one of the body's
-node : (l : tie.In-loop invariant-loop decreases-loop) → l.before.loop.i < (nodes l.before.before.before.before.args.body.now).count
-node l = omega (arith, l.loop-test.true, l.before.before.number_of_nodes.ensures)
+node : (l : tie.In-loop-i invariant-loop decreases-loop) → l.before.loop-i.i < (nodes l.before.before.before.before.args.body.now).count
+node l = omega (arith, l.loop-i-test.true, l.before.before.node_count-count.ensures)
 
-node-count-requires : tie.Need-node-count-requires invariant-loop decreases-loop
+node-count-requires : tie.Need-node_count-count-requires invariant-loop decreases-loop
 node-count-requires c κs = search rules
 
-loop_holds : tie.Need-loop-init invariant-loop decreases-loop
+loop_holds : tie.Need-loop-i-init invariant-loop decreases-loop
 loop_holds c = (search rules, λ E pr m k lt p. absurd (omega arith))
 
 species_requires : tie.Need-species-requires invariant-loop decreases-loop
 species_requires c κs = search rules
 
-beside-all-requires : tie.Need-beside-all-requires invariant-loop decreases-loop
+beside-all-requires : tie.Need-beside_all-requires invariant-loop decreases-loop
 beside-all-requires c κs =
     let l = c.before.before in
     let s = l.before.before.before.before in
     (s.requires.0, (s.requires.1.0, (node l, s.requires.1.1.1)))
 
-returns : tie.Need-returns invariant-loop decreases-loop
+returns : tie.Need-returns-then-not-beside_all invariant-loop decreases-loop
 returns c =
     let b = c.before in
     let l = b.before.before.before in
@@ -48,44 +47,44 @@ returns c =
       node l,
       λ E pr m. record {
         within = node l;
-        before = λ i p h q. l.before.loop.invariant.1 E pr m i (q l.before.loop.invariant.0) p;
-        inner = λ p. omega (arith, b.before.if1.true, b.before.before.species.ensures);
-        apart = λ p. (b.beside-all.ensures E pr m).apart (not-true b.beside-all.result c.if2.true);
+        before = λ i p h q. l.before.loop-i.invariant.1 E pr m i (q l.before.loop-i.invariant.0) p;
+        inner = λ p. omega (arith, b.before.if-species.true, b.before.before.species.ensures);
+        apart = λ p. (b.beside_all.ensures E pr m).apart c.if-not-beside_all.true;
       },
     )
 
-add-i : tie.Need-overflow-add-i invariant-loop decreases-loop
+add-i : tie.Need-overflow_add-i invariant-loop decreases-loop
 add-i c = search rules
 
-loop_less : tie.Need-loop-smaller invariant-loop decreases-loop
+loop_less : tie.Need-loop-i-smaller invariant-loop decreases-loop
 loop_less c = search rules
 
-loop_again : tie.Need-loop-preserved invariant-loop decreases-loop
+loop_again : tie.Need-loop-i-preserved invariant-loop decreases-loop
 loop_again c =
     let l = c.before.before in
     let s = l.before.before.before.before in (
       omega arith,
-      λ E pr m. below_more (λ k. 0 < k → (j : ℕ) → Beside E _ k j) l.before.loop.i (l.before.loop.invariant.1 E pr m) (⊎_elim
-          (λ w _. (w.1.ensures E pr m).joined (not-false _ w.2.left))
-          (λ w _ j. leaf_beside _ s.requires.0 E l.before.loop.i j (node l) (λ e. omega (arith, w.left, c.before.species.ensures, e)))
-          c.if1.branch),
+      λ E pr m. below_more (λ k. 0 < k → (j : ℕ) → Beside E _ k j) l.before.loop-i.i (l.before.loop-i.invariant.1 E pr m) (⊎_elim
+          (λ w _. (w.beside_all.ensures E pr m).joined w.if-not-beside_all.false)
+          (λ w _ j. leaf_beside _ s.requires.0 E l.before.loop-i.i j (node l) (λ e. omega (arith, w.if-species.false, c.before.species.ensures, e)))
+          c.else-species.branch-raw),
     )
 
-returns_2 : tie.Need-returns-2 invariant-loop decreases-loop
+returns_2 : tie.Need-returns invariant-loop decreases-loop
 returns_2 c =
     let l = c.before in
     let s = l.before.before.before in (
       s.requires.1.1.0,
       λ E pr m. record {
         within = s.requires.1.1.0;
-        before = λ i p h q. l.loop.invariant.1 E pr m i (omega (arith, c.loop-test.false, l.before.number_of_nodes.ensures)) p;
+        before = λ i p h q. l.loop-i.invariant.1 E pr m i (omega (arith, c.loop-i-test.false, l.before.node_count-count.ensures)) p;
         inner = λ p. absurd (omega arith);
         apart = λ p. absurd (omega arith);
       },
     )
 
-pub first-unearned-spec : {M : Type 1} → statement M
-first-unearned-spec =
+pub first_unearned_spec : {M : Type 1} → statement M
+first_unearned_spec =
     tie.close
     (tie.spec
     invariant-loop

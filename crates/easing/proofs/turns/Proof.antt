@@ -47,8 +47,8 @@ module _ (c : tie.At-loop invariant-loop decreases-loop) where
   fits : body_length m ≤ length draft
   fits = omega (arith, m_few, c.loop.invariant.size)
 
-front : (c : tie.After-body-length invariant-loop decreases-loop) → take c.body_length_lem.result (draft c.before) ≡ take (body_length (m c.before)) (draft c.before)
-front c = ap (λ (k : ℕ). take k (draft c.before)) c.body_length_lem.ensures
+front : (c : tie.After-body-length invariant-loop decreases-loop) → take c.body_length.result (draft c.before) ≡ take (body_length (m c.before)) (draft c.before)
+front c = ap (λ (k : ℕ). take k (draft c.before)) c.body_length.ensures
 
 -- once the first group that is not earned was looked for
 module _ (c : tie.After-find-unearned invariant-loop decreases-loop) where
@@ -73,12 +73,12 @@ body-length-requires : tie.Need-body-length-requires invariant-loop decreases-lo
 body-length-requires c κs = m_few c
 
 slice-reshare-prefix-find-unearned : tie.Need-slice-reshare-prefix-find-unearned invariant-loop decreases-loop
-slice-reshare-prefix-find-unearned c = omega (arith, c.body_length_lem.ensures, fits c.before)
+slice-reshare-prefix-find-unearned c = omega (arith, c.body_length.ensures, fits c.before)
 
 slice-aggregate-find-unearned : tie.Need-slice-aggregate-find-unearned invariant-loop decreases-loop
 slice-aggregate-find-unearned c =
     let p = c.before in
-    sym (length-take-le p.body_length_lem.result (draft p.before) (omega (arith, p.body_length_lem.ensures, fits p.before)))
+    sym (length-take-le p.body_length.result (draft p.before) (omega (arith, p.body_length.ensures, fits p.before)))
 
 find-unearned-requires : tie.Need-find-unearned-requires invariant-loop decreases-loop
 find-unearned-requires c κs =

@@ -1,7 +1,6 @@
 -- `entering::decide` meets its contract: each refusal in its turn. Assumes nothing.
 use mathlib.Core.Bool.{false, not}
 use mathlib.Core.Path.{◌∙◌, ◌≡◌, ap, refl, sym}
-use Prim.Native.Nat.{ℕ}
 use borrow.Author.Rules.{rules}
 use borrow.Author.Tests.{le-ltb, lt-ltb}
 use lib.ListN.{length}
@@ -16,70 +15,61 @@ use Rattle.entering.specs.Passes.{cleared}
 use Rattle.entering.proofs.decide.Statement.{statement}
 use Rattle.entering.proofs.decide.Tie as tie
 
-abbrev n : tie.After-look-count → ℕ
-n c = c.before.before.args.n
-
 -- what has been tested: n is from 1 to 64, and the table is as long as it must be
-counted : (c : tie.After-enum-told) → look_count (n c.before.before) ≡ Pass
-counted c = sym c.before.before.look-count.ensures ∙ c.enum_told.given.1
+counted : (c : tie.In-Pass) → look_count c.args.n ≡ Pass
+counted c = sym c.look_count-look.ensures ∙ c.in-Pass.is
 
-fitting : (c : tie.Else1) → let x = c.before.before.before.before.before in wrong_length (n x) (length x.before.before.args.table.now) ≡ false
-fitting c = sym (ap not c.before.fits2.ensures) ∙ c.if1.false
+fitting : (c : tie.Else-not-fits) → wrong_length c.args.n (length c.args.table.now) ≡ false
+fitting c = sym (ap not c.fits.ensures) ∙ ap not c.if-not-fits.false
 
-look-count-requires : tie.Need-look-count-requires
+look-count-requires : tie.Need-look_count-look-requires
 look-count-requires c κs = search rules
 
-enum_told : tie.Need-enum-told
+enum_told : tie.Need-enum_told-1
 enum_told c = search rules
 
-enum-known-look : tie.Need-enum-known-look
+enum-known-look : tie.Need-enum_known-look
 enum-known-look c = search rules
 
-returns : tie.Need-returns
+returns : tie.Need-returns-in-Refuse
 unfolding decided cleared
 returns c =
-    let k = c.before in
-    let x = k.before.before in
-    let e : look_count (n x) ≡ _ = sym x.look-count.ensures ∙ k.look.given.1 in
+    let e : look_count c.args.n ≡ _ = sym c.look_count-look.ensures ∙ c.in-Refuse.is in
     (sym (rw e refl), refl)
 
 fits-requires : tie.Need-fits-requires
-fits-requires c κs = ((count_pass (n c.before.before.before)).0 (counted c.before)).most
+fits-requires c κs = ((count_pass c.args.n).0 (counted c)).most
 
-same_length : tie.Need-same-length
+same_length : tie.Need-shape_of-table-then-not-fits
 same_length c = search rules
 
-returns_2 : tie.Need-returns-2
+returns_2 : tie.Need-returns-then-not-fits
 unfolding decided cleared
-returns_2 c =
-    let f = c.before in
-    (sym (rw (counted f.before.before, sym (ap not f.fits2.ensures) ∙ c.if1.true) refl), refl)
+returns_2 c = (sym (rw (counted c.before.before, sym (ap not c.fits.ensures) ∙ ap not c.if-not-fits.true) refl), refl)
 
-same_length_2 : tie.Need-same-length-2
+same_length_2 : tie.Need-shape_of-table-then-k-m
 same_length_2 c = search rules
 
-returns_3 : tie.Need-returns-3
+returns_3 : tie.Need-returns-then-k-m
 unfolding decided cleared
 returns_3 c =
     let e = c.before in
-    (sym (rw (counted e.before.before.before, fitting e, lt-ltb _ _ c.if2.true) refl), refl)
+    (sym (rw (counted e.before.before, fitting e, lt-ltb _ _ c.if-k-m.true) refl), refl)
 
 clear-requires : tie.Need-clear-requires
 clear-requires c κs = search rules
 
-same_length_3 : tie.Need-same-length-3
+same_length_3 : tie.Need-shape_of-table
 same_length_3 c = search rules
 
-returns_4 : tie.Need-returns-4
+returns_4 : tie.Need-returns
 unfolding decided cleared occurs_in
 returns_4 c =
-    let d = c.before.before in
-    let l = d.before.before in
-    let e = l.before in
-    (sym (rw (counted e.before.before.before, fitting e, le-ltb _ _ l.if2.false, number_empty 64) refl), d.clear.ensures)
+    let e = c.before.before.before.before.before in
+    (sym (rw (counted e.before.before, fitting e, le-ltb _ _ c.if-k-m.false, number_empty 64) refl), c.clear.ensures)
 
-pub decide-spec : {M : Type 1} → statement M
-decide-spec =
+pub decide_spec : {M : Type 1} → statement M
+decide_spec =
     tie.close
     (tie.spec
     look-count-requires

@@ -9,11 +9,11 @@ use Rattle.groups.proofs.own.Tie as tie
 single-requires : tie.Need-single-requires
 single-requires c κs = search rules
 
-returns : tie.Need-returns
-returns c = rw (lt-ltb c.before.before.args.s 64 (omega (arith, c.before.if1.true))) c.single.ensures
+returns : tie.Need-returns-then-s-lt64
+returns c = rw (lt-ltb c.before.before.args.s 64 (omega (arith, c.before.if-s-lt64.true))) c.single.ensures
 
-returns_2 : tie.Need-returns-2
-returns_2 c = rw (le-ltb c.before.args.s 64 (omega (arith, c.if1.false))) refl
+returns_2 : tie.Need-returns
+returns_2 c = rw (le-ltb c.before.args.s 64 (omega (arith, c.if-s-lt64.false))) refl
 
-pub own-spec : {M : Type 1} → statement M
-own-spec = tie.close (tie.spec single-requires returns returns_2)
+pub own_spec : {M : Type 1} → statement M
+own_spec = tie.close (tie.spec single-requires returns returns_2)

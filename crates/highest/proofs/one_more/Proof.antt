@@ -9,14 +9,14 @@ use Rattle.highest.proofs.one_more.Tie as tie
 wide-requires : tie.Need-wide-requires
 wide-requires c κs = search rules
 
-add-result : tie.Need-overflow-add-result
+add-result : tie.Need-overflow_add-result
 add-result c = search rules
 
-returns : tie.Need-returns
-returns c = rw (eq-eqb _ _ c.if1.true) refl
+returns : tie.Need-returns-then-s-eq-NONE
+returns c = rw (eq-eqb _ _ c.if-s-eq-NONE.true) refl
 
-returns_2 : tie.Need-returns-2
-returns_2 c = rw (ne_eqb _ _ c.before.if1.false) (omega arith)
+returns_2 : tie.Need-returns-else-s-eq-NONE
+returns_2 c = rw (ne_eqb _ _ c.before.if-s-eq-NONE.false) (omega arith)
 
-pub one-more-spec : {M : Type 1} → statement M
-one-more-spec = tie.close (tie.spec wide-requires add-result returns returns_2)
+pub one_more_spec : {M : Type 1} → statement M
+one_more_spec = tie.close (tie.spec wide-requires add-result returns returns_2)

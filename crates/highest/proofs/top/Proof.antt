@@ -9,49 +9,49 @@ use Rattle.highest.specs.Bound.{one_more', top_among}
 use Rattle.highest.proofs.top.Statement.{statement}
 use Rattle.highest.proofs.top.Tie as tie
 
-abbrev invariant-loop : tie.invariant-loop
+abbrev invariant-loop : tie.invariant-loop-i
 invariant-loop body count n₀ i₀ n i = (i ≤ count) × (n ≡ top_among (nodes body) i)
 
-abbrev decreases-loop : tie.decreases-loop
+abbrev decreases-loop : tie.decreases-loop-i
 decreases-loop body count n₀ i₀ n i = count - i
 
-node-count-requires : tie.Need-node-count-requires invariant-loop decreases-loop
+node-count-requires : tie.Need-node_count-count-requires invariant-loop decreases-loop
 node-count-requires c κs = search rules
 
-loop_holds : tie.Need-loop-init invariant-loop decreases-loop
+loop_holds : tie.Need-loop-i-init invariant-loop decreases-loop
 unfolding top_among
 loop_holds c = search rules
 
 species_requires : tie.Need-species-requires invariant-loop decreases-loop
 species_requires c κs = search rules
 
-one-more-requires : tie.Need-one-more-requires invariant-loop decreases-loop
+one-more-requires : tie.Need-one_more-requires invariant-loop decreases-loop
 one-more-requires c κs = search rules
 
-higher-requires : tie.Need-higher-requires invariant-loop decreases-loop
+higher-requires : tie.Need-higher-n-requires invariant-loop decreases-loop
 higher-requires c κs = search rules
 
-add-i : tie.Need-overflow-add-i invariant-loop decreases-loop
+add-i : tie.Need-overflow_add-i invariant-loop decreases-loop
 add-i c = search rules
 
-loop_less : tie.Need-loop-smaller invariant-loop decreases-loop
+loop_less : tie.Need-loop-i-smaller invariant-loop decreases-loop
 loop_less c = search rules
 
-loop_again : tie.Need-loop-preserved invariant-loop decreases-loop
+loop_again : tie.Need-loop-i-preserved invariant-loop decreases-loop
 unfolding top_among
 loop_again c =
-    let l = c.before.before.before.before.loop in
+    let l = c.before.before.before.before.loop-i in
     let a = add-one l.i in
-    (omega arith, rw a (c.higher.ensures ∙ ap₂ max l.invariant.1 (c.before.one_more.ensures ∙ ap one_more' c.before.before.species.ensures)))
+    (omega arith, rw a (c.higher-n.ensures ∙ ap₂ max l.invariant.1 (c.before.one_more.ensures ∙ ap one_more' c.before.before.species.ensures)))
 
 returns : tie.Need-returns invariant-loop decreases-loop
 returns c =
-    let l = c.before.loop in
+    let l = c.before.loop-i in
     let e : l.i ≡ (nodes c.before.before.before.before.args.body.now).count = omega arith in
     l.invariant.1 ∙ ap (top_among (nodes c.before.before.before.before.args.body.now)) e
 
-pub top-spec : {M : Type 1} → statement M
-top-spec =
+pub top_spec : {M : Type 1} → statement M
+top_spec =
     tie.close
     (tie.spec
     invariant-loop

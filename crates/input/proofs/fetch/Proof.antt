@@ -11,43 +11,43 @@ use Rattle.input.specs.Inputs.{Took}
 use Rattle.input.proofs.fetch.Statement.{statement}
 use Rattle.input.proofs.fetch.Tie as tie
 
-abbrev invariant-loop : tie.invariant-loop
-invariant-loop buffer₀ to₀ n left₀ i₀ buffer to left i = Took left₀ buffer₀ (take i to) left buffer × (i ≤ n) × (length buffer ≡ length buffer₀) × (length to ≡ length to₀)
+abbrev invariant-loop : tie.invariant-loop-i
+invariant-loop stdin buffer₀ to₀ n left₀ i₀ buffer to left i = Took left₀ buffer₀ (take i to) left buffer × (i ≤ n) × (length buffer ≡ length buffer₀) × (length to ≡ length to₀)
 
-abbrev decreases-loop : tie.decreases-loop
-decreases-loop buffer₀ to₀ n left₀ i₀ buffer to left i = n - i
+abbrev decreases-loop : tie.decreases-loop-i
+decreases-loop stdin buffer₀ to₀ n left₀ i₀ buffer to left i = n - i
 
-loop_holds : tie.Need-loop-init invariant-loop decreases-loop
+loop_holds : tie.Need-loop-i-init invariant-loop decreases-loop
 loop_holds c = (took_none (search rules), omega arith, refl, refl)
 
-next-requires : tie.Need-next-requires invariant-loop decreases-loop
+next-requires : tie.Need-next-b-requires invariant-loop decreases-loop
 next-requires c κs = search rules
 
-slice-write-to : tie.Need-slice-write-to invariant-loop decreases-loop
+slice-write-to : tie.Need-bounds-to-i invariant-loop decreases-loop
 slice-write-to c = search rules
 
-add-i : tie.Need-overflow-add-i invariant-loop decreases-loop
+add-i : tie.Need-overflow_add-i invariant-loop decreases-loop
 add-i c = search rules
 
-loop_less : tie.Need-loop-smaller invariant-loop decreases-loop
+loop_less : tie.Need-loop-i-smaller invariant-loop decreases-loop
 loop_less c = search rules
 
-loop_again : tie.Need-loop-preserved invariant-loop decreases-loop
+loop_again : tie.Need-loop-i-preserved invariant-loop decreases-loop
 loop_again c =
     let n = c.before.before.before in
     let x = n.before.before.before in
-    let v = x.loop.invariant in
-    let h : x.loop.i < length x.loop.to = omega arith in
-    (rw (add-one, take-suc-set) (took_both v.0 n.next.ensures), omega arith, n.next.auto.0 ∙ v.2, simp length-set v.3)
+    let v = x.loop-i.invariant in
+    let h : x.loop-i.i < length x.loop-i.to = omega arith in
+    (rw (add-one, take-suc-set) (took_both v.0 n.next-b.ensures), omega arith, n.next-b.auto.buffer ∙ v.2, simp length-set v.3)
 
-same_length : tie.Need-same-length invariant-loop decreases-loop
+same_length : tie.Need-shape_of-buffer invariant-loop decreases-loop
 same_length c = search rules
 
-same_length_2 : tie.Need-same-length-2 invariant-loop decreases-loop
+same_length_2 : tie.Need-shape_of-to invariant-loop decreases-loop
 same_length_2 c = search rules
 
 returns : tie.Need-returns invariant-loop decreases-loop
-returns c = let e : c.before.loop.i ≡ c.before.before.before.before.args.n = omega arith in rw e at c.before.loop.invariant.0
+returns c = let e : c.before.loop-i.i ≡ c.before.before.before.before.args.n = omega arith in rw e at c.before.loop-i.invariant.0
 
 pub fetch_spec : {M : Type 1} → statement M
 fetch_spec =

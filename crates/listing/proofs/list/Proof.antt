@@ -24,7 +24,7 @@ use Rattle.listing.proofs.list.Statement.{statement}
 use Rattle.listing.proofs.list.Tie as tie
 
 -- what reading came to
-module _ (c : tie.After-read) where
+module _ (c : tie.After-read-read) where
   abbrev b : List ℕ
   b = c.before.before.before.args.b.now
 
@@ -32,68 +32,68 @@ module _ (c : tie.After-read) where
   t = c.before.before.before.args.t.now
 
 -- where it refused nothing
-module _ (c : tie.After-read2) where
-  read_as : (c.read2.given.0.0 ≡ counts_of (b c.before.before)) × Collection (b c.before.before)
-  read_as = read_done (b c.before.before) c.read2.given.0.0 (sym c.before.before.read.ensures ∙ c.read2.given.1)
+module _ (c : tie.In-Done-2) where
+  read_as : (c.in-Done.c ≡ counts_of (b c.before)) × Collection (b c.before)
+  read_as = read_done (b c.before) c.in-Done.c (sym c.before.read-read.ensures ∙ c.in-Done.is)
 
-  count_as : c.read2.given.0.0.n ≡ species (b c.before.before)
+  count_as : c.in-Done.c.n ≡ species (b c.before)
   count_as = ap (λ (k : Counts). k.n) read_as.0
 
-  passed : first_refusal (read_looks (b c.before.before)) ≡ Pass
-  passed = (read_pass (b c.before.before)).1 read_as.1
+  passed : first_refusal (read_looks (b c.before)) ≡ Pass
+  passed = (read_pass (b c.before)).1 read_as.1
 
   -- 7 behind it
-  seven : (f : Bool) → not (eqb (length (t c.before.before)) (C c.read2.given.0.0.n 3)) ≡ f → first_refusal (list_looks (b c.before.before) (length (t c.before.before))) ≡ refuse_if f BadTable
+  seven : (f : Bool) → not (eqb (length (t c.before)) (C c.in-Done.c.n 3)) ≡ f → first_refusal (list_looks (b c.before) (length (t c.before))) ≡ refuse_if f BadTable
   seven f e =
-      let x = c.before.before in
+      let x = c.before in
       first_on (read_looks (b x)) (look_table (species (b x)) (length (t x)) ∷ []) passed ∙ then_nothing _
       ∙ ap (λ (g : Bool). refuse_if g BadTable) (ap (λ (n : ℕ). wrong_length n (length (t x))) (sym count_as) ∙ e)
 
-read-requires : tie.Need-read-requires
+read-requires : tie.Need-read-read-requires
 read-requires c κs = search rules
 
-enum-known-read : tie.Need-enum-known-read
+enum-known-read : tie.Need-enum_known-read
 enum-known-read c = search rules
 
 fits-requires : tie.Need-fits-requires
-fits-requires c κs = let x = c.before.before in omega (arith, count_as x, (read_as x).1.most)
+fits-requires c κs = let x = c in omega (arith, count_as x, (read_as x).1.most)
 
-same_length : tie.Need-same-length
+same_length : tie.Need-shape_of-t-then-not-fits
 same_length c = search rules
 
-returns : tie.Need-returns
+returns : tie.Need-returns-then-not-fits
 returns c =
     let f = c.before in
-    is_refused BadTable (seven f.before.before.before true (sym (ap not f.fits2.ensures) ∙ c.if1.true))
+    is_refused BadTable (seven f.before true (sym (ap not f.fits2.ensures) ∙ c.if-not-fits.true))
 
 fill-requires : tie.Need-fill-requires
 fill-requires c κs =
     let f = c.before.before in
-    let x = f.before.before.before in
-    ((read_as x).1, count_as x, ap (λ (k : Counts). k.trees) (read_as x).0, eqb-true _ _ (sym f.fits2.ensures ∙ not-false f.fits2.result c.before.if1.false))
+    let x = f.before in
+    ((read_as x).1, count_as x, ap (λ (k : Counts). k.trees) (read_as x).0, eqb-true _ _ (sym f.fits2.ensures ∙ not-false f.fits2.result c.before.if-not-fits.false))
 
-enum-known-read-2 : tie.Need-enum-known-read-2
+enum-known-read-2 : tie.Need-enum_known-read-in-Refused-1
 enum-known-read-2 c = search rules
 
-same_length_2 : tie.Need-same-length-2
+same_length_2 : tie.Need-shape_of-t
 same_length_2 c = search rules
 
-returns_2 : tie.Need-returns-2
+returns_2 : tie.Need-returns-else-not-fits
 returns_2 c =
     let p = c.before.before in
     let e = p.before.before in
     let f = e.before in
-    let x = f.before.before.before in
-    is_done (seven x false (sym (ap not f.fits2.ensures) ∙ e.if1.false)) (read_as x).0 p.fill.ensures
+    let x = f.before in
+    is_done (seven x false (sym (ap not f.fits2.ensures) ∙ e.if-not-fits.false)) (read_as x).0 p.fill.ensures
 
-returns_3 : tie.Need-returns-3
+returns_3 : tie.Need-returns-in-Refused
 returns_3 c =
-    let k = c.before in
-    let x = k.before.before in
-    is_refused _ (first_stop (read_looks (b x)) (look_table (species (b x)) (length (t x)) ∷ []) _ (read_refused (b x) _ (sym x.read.ensures ∙ k.read3.given.1)))
+    let k = c in
+    let x = k.before in
+    is_refused _ (first_stop (read_looks (b x)) (look_table (species (b x)) (length (t x)) ∷ []) _ (read_refused (b x) _ (sym x.read-read.ensures ∙ k.in-Refused.is)))
 
-pub list-spec : {M : Type 1} → statement M
-list-spec =
+pub list_spec : {M : Type 1} → statement M
+list_spec =
     tie.close
     (tie.spec
     read-requires

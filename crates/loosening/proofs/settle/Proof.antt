@@ -15,7 +15,7 @@ use Rattle.answers.specs.declared.Look.{Look}
 use Rattle.answers.specs.declared.Look.TheVariants.{Pass}
 use Rattle.refusals.specs.declared.Refusal.TheVariants.{ShortRoom}
 use Rattle.checking.proofs.Judged.{candidate, good_64, some_nodes}
-use Rattle.checking.specs.Checks.{look_pC}
+use Rattle.checking.specs.Checks.{look_pc}
 use Rattle.loosening.specs.Loosens.{late_looks}
 use Rattle.loosening.proofs.settle.Statement.{statement}
 use Rattle.loosening.proofs.settle.Tie as tie
@@ -55,7 +55,7 @@ module _ (c : tie.After-meets2) where
 
   -- 11; and 9, twice
   abbrev first : List Look
-  first = look_pC n t T ∷ []
+  first = look_pc n t T ∷ []
 
   abbrev late : List Look
   late = drop 1 (late_looks n t body (length room) (length list))

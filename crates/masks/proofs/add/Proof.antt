@@ -4,25 +4,25 @@ use Rattle.masks.proofs.Growth.{add_grown, add-length}
 use Rattle.masks.proofs.add.Statement.{statement}
 use Rattle.masks.proofs.add.Tie as tie
 
-mul-i : tie.Need-overflow-mul-i
+mul-i : tie.Need-overflow_mul-i
 mul-i c = search rules
 
-add-i : tie.Need-overflow-add-i
+add-i : tie.Need-overflow_add-i
 add-i c = search rules
 
-mul-with : tie.Need-overflow-mul-with
+mul-with : tie.Need-offset_bounds-masks-i
 mul-with c = search rules
 
-element-copy-out-with : tie.Need-element-copy-out-with
+element-copy-out-with : tie.Need-bounds-masks-i
 element-copy-out-with c = search rules
 
 with-requires : tie.Need-with-requires
 with-requires c κs = search rules
 
-mul-masks : tie.Need-overflow-mul-masks
+mul-masks : tie.Need-offset_bounds-masks-i-2
 mul-masks c = search rules
 
-element-write-masks : tie.Need-element-write-masks
+element-write-masks : tie.Need-bounds-masks-i-2
 element-write-masks c = search rules
 
 returns : tie.Need-returns

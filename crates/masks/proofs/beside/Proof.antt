@@ -20,7 +20,7 @@ lowest_requires c κs = search rules
 some : (c : tie.After-lowest) → c.before.before.args.g ≢ 0
 some c e = omega arith
 
-part-requires : tie.Need-part-requires
+part-requires : tie.Need-part-p-requires
 part-requires c κs = c.lowest.ensures.small (some c)
 
 subset-requires : tie.Need-subset-requires
@@ -34,9 +34,9 @@ returns c =
     let a = v.before.args in
     let u = l.lowest.result in
     let h : So (has a.g u) = true_has a.g u (l.lowest.ensures.member (some l)) in
-    λ E pr k. beside_joins E pr a.g a.h v.union.result p.part.result u c.subset.result (omega arith) v.union.ensures h
-    (p.part.ensures E pr k (union_l v.union.result a.g a.h u v.union.ensures h)) c.subset.ensures
+    λ E pr k. beside_joins E pr a.g a.h v.union.result p.part-p.result u c.subset.result (omega arith) v.union.ensures h
+    (p.part-p.ensures E pr k (union_l v.union.result a.g a.h u v.union.ensures h)) c.subset.ensures
 
-pub beside-spec : {M : Type 1} → statement M
-beside-spec =
+pub beside_spec : {M : Type 1} → statement M
+beside_spec =
     tie.close (tie.spec union-requires lowest_requires part-requires subset-requires returns)

@@ -2,7 +2,6 @@
 use mathlib.Core.Path.{◌∙◌, sym}
 use native.Mathlib.Omega.{arith}
 use borrow.Author.Rules.{rules}
-use borrow.Author.Tests.{not-false, not-true}
 use Rattle.tables.specs.Bytes.{entered}
 use Rattle.trees.proofs.Triplets.{different_i}
 use Rattle.masks.proofs.Triples.{note_off, note_on}
@@ -15,17 +14,17 @@ resolved-requires c κs =
     let a = s.args in
     (different_i a.a a.b a.c (λ e. omega arith) (λ e. omega arith) (λ e. omega arith), omega arith, omega arith, s.requires.2)
 
-returns : tie.Need-returns
+returns : tie.Need-returns-then-not-resolved
 returns c =
     let k = c.before in
     let s = k.before.before in
     let a = s.args in
     record {
       size = s.requires.3;
-      grown = λ T m w. note_off T a.a a.b a.c (entered a.t.now) (sym (k.resolved.ensures T m w) ∙ not-true k.resolved.result c.if1.true);
+      grown = λ T m w. note_off T a.a a.b a.c (entered a.t.now) (sym (k.resolved.ensures T m w) ∙ c.if-not-resolved.true);
     }
 
-bits-of-requires : tie.Need-bits-of-requires
+bits-of-requires : tie.Need-bits_of-s-requires
 bits-of-requires c κs = search rules
 
 put_requires : tie.Need-put-requires
@@ -37,7 +36,7 @@ put_requires_2 c κs = search rules
 put-requires-3 : tie.Need-put-requires-3
 put-requires-3 c κs = search rules
 
-returns_2 : tie.Need-returns-2
+returns_2 : tie.Need-returns
 returns_2 c =
     let p₂ = c.before.before in
     let p₁ = p₂.before.before in
@@ -46,15 +45,15 @@ returns_2 c =
     let k = i.before in
     let s = k.before.before in
     let a = s.args in
-    let e = l.bits_of.ensures in
+    let e = l.bits_of-s.ensures in
     record {
-      size = c.put3.ensures.0;
-      grown = λ T m w. note_on T a.a a.b a.c (entered a.t.now) (sym (k.resolved.ensures T m w) ∙ not-false k.resolved.result i.if1.false)
-          e.0 e.1 e.2 p₁.put.ensures.1 p₂.put2.ensures.1 c.put3.ensures.1;
+      size = c.put-3.ensures.0;
+      grown = λ T m w. note_on T a.a a.b a.c (entered a.t.now) (sym (k.resolved.ensures T m w) ∙ i.if-not-resolved.false)
+          e.0 e.1 e.2 p₁.put.ensures.1 p₂.put-2.ensures.1 c.put-3.ensures.1;
     }
 
-pub note-spec : {M : Type 1} → statement M
-note-spec =
+pub note_spec : {M : Type 1} → statement M
+note_spec =
     tie.close
     (tie.spec
     resolved-requires

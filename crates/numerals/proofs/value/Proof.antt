@@ -10,7 +10,7 @@ use Rattle.numerals.proofs.value.Tie as tie
 wide-requires : tie.Need-wide-requires
 wide-requires c κs = search rules
 
-sub-result : tie.Need-overflow-sub-result
+sub-result : tie.Need-overflow_sub-result
 sub-result c =
     let b = c.before.args.b in
     omega (arith, leb-true 48 b (and_l (leb 48 b) (leb b 57) c.before.requires))

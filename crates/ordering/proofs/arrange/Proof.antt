@@ -18,9 +18,9 @@ put_requires : tie.Need-put-requires
 put_requires c κs =
     let g = c.before.before in
     let s = g.before.before.before.before in
-    (s.requires.0, (g.groups2.ensures, (s.requires.1.0, (omega (arith, count s, s.requires.1.0.1), omega (arith, count s, s.requires.1.1)))))
+    (s.requires.0, (g.groups.ensures, (s.requires.1.0, (omega (arith, count s, s.requires.1.0.1), omega (arith, count s, s.requires.1.1)))))
 
-same_length : tie.Need-same-length
+same_length : tie.Need-shape_of-room
 same_length c = search rules
 
 returns : tie.Need-returns
@@ -29,5 +29,5 @@ returns c =
     let s = p.before.before.before.before.before.before.before in
     (omega (arith, p.put.ensures.0, count s), p.put.ensures.1)
 
-pub arrange-spec : {M : Type 1} → statement M
-arrange-spec = tie.close (tie.spec groups-requires put_requires same_length returns)
+pub arrange_spec : {M : Type 1} → statement M
+arrange_spec = tie.close (tie.spec groups-requires put_requires same_length returns)

@@ -16,15 +16,15 @@ use Rattle.children.proofs.Ready.{Ready, is_ready}
 use Rattle.ordering.proofs.order.Statement.{statement}
 use Rattle.ordering.proofs.order.Tie as tie
 
-module _ (c : tie.After-and-then) where
+module _ (c : tie.After-and_then-look) where
   abbrev n : ℕ
-  n = c.before.before.before.before.before.args.n
+  n = c.args.n
 
   abbrev body : List ℕ
-  body = c.before.before.before.before.before.args.body.now
+  body = c.args.body.now
 
   abbrev room : List ℕ
-  room = c.before.before.before.before.before.args.room.now
+  room = c.args.room.now
 
   -- 2, 5, 6; and 9
   abbrev early : List Look
@@ -33,63 +33,62 @@ module _ (c : tie.After-and-then) where
   abbrev late : List Look
   late = look_room (length body) (length room) ∷ []
 
-  looked : c.and_then.result ≡ first_refusal early
-  looked = c.and_then.ensures ∙ ap₂ look_then c.before.before.look-count.ensures c.before.look-body.ensures
+  looked : c.and_then-look.result ≡ first_refusal early
+  looked = c.and_then-look.ensures ∙ ap₂ look_then c.look_count.ensures c.look_body.ensures
 
 -- once nothing of 2, 5, 6 was refused
-module _ (c : tie.After-enum-told) where
-  passed : first_refusal (early c.before.before) ≡ Pass
-  passed = sym (looked c.before.before) ∙ c.enum_told.given.1
+module _ (c : tie.In-Pass) where
+  passed : first_refusal (early c.before) ≡ Pass
+  passed = sym (looked c.before) ∙ c.in-Pass.is
 
-  ready : Ready (body c.before.before)
+  ready : Ready (body c.before)
   ready =
-      let x = c.before.before in
+      let x = c.before in
       let p = (then_pass (look_count (n x)) _).0 passed in
       let h = (body_pass 0 (n x) (body x)).0 p.1 in
       is_ready (n x) (body x) ((count_pass (n x)).0 p.0).most h.good h.long
 
-look-count-requires : tie.Need-look-count-requires
+look-count-requires : tie.Need-look_count-requires
 look-count-requires c κs = search rules
 
-look-body-requires : tie.Need-look-body-requires
+look-body-requires : tie.Need-look_body-requires
 look-body-requires c κs = search rules
 
-and-then-requires : tie.Need-and-then-requires
+and-then-requires : tie.Need-and_then-look-requires
 and-then-requires c κs = search rules
 
-enum_told : tie.Need-enum-told
+enum_told : tie.Need-enum_told-1
 enum_told c = search rules
 
-enum-known-look : tie.Need-enum-known-look
+enum-known-look : tie.Need-enum_known-look
 enum-known-look c = search rules
 
-returns : tie.Need-returns
+returns : tie.Need-returns-in-Refuse
 returns c =
-    let k = c.before in
-    let x = k.before.before in
-    is_refused _ (first_stop (early x) (late x) _ (sym (looked x) ∙ k.look.given.1))
+    let x = c.before in
+    is_refused _ (first_stop (early x) (late x) _ (sym (looked x) ∙ c.in-Refuse.is))
 
-returns_2 : tie.Need-returns-2
+returns_2 : tie.Need-returns-then-room-body
 returns_2 c =
-    let x = c.before.before.before in
-    is_refused ShortRoom (first_on (early x) (late x) (passed c.before) ∙ rw (lt-ltb (length (room x)) (length (body x)) c.if1.true) refl)
+    let x = c.before.before in
+    is_refused ShortRoom (first_on (early x) (late x) (passed c.before) ∙ rw (lt-ltb (length (room x)) (length (body x)) c.if-room-body.true) refl)
 
-arrange-requires : tie.Need-arrange-requires
-arrange-requires c κs = let e = c.before in let r = ready e.before in (r.good, ((r.some, r.few), omega (arith, r.whole, e.if1.false)))
+arrange-requires : tie.Need-arrange-count-requires
+arrange-requires c κs = let e = c.before in let r = ready e.before in (r.good, ((r.some, r.few), omega (arith, r.whole, e.if-room-body.false)))
 
-same_length : tie.Need-same-length
+same_length : tie.Need-shape_of-room
 same_length c = search rules
 
-returns_3 : tie.Need-returns-3
+returns_3 : tie.Need-returns
 returns_3 c =
     let p = c.before.before in
     let e = p.before.before in
-    let x = e.before.before.before in
-    is_done (first_on (early x) (late x) (passed e.before) ∙ rw (le-ltb (length (room x)) (length (body x)) e.if1.false) refl)
-    (ap (λ (k : ℕ). record { nodes = k }) p.arrange.ensures.0) p.arrange.ensures.1
+    let x = e.before.before in
+    is_done (first_on (early x) (late x) (passed e.before) ∙ rw (le-ltb (length (room x)) (length (body x)) e.if-room-body.false) refl)
+    (ap (λ (k : ℕ). record { nodes = k }) p.arrange-count.ensures.0) p.arrange-count.ensures.1
 
-pub order-spec : {M : Type 1} → statement M
-order-spec =
+pub order_spec : {M : Type 1} → statement M
+order_spec =
     tie.close
     (tie.spec
     look-count-requires

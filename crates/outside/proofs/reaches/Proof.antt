@@ -13,26 +13,26 @@ has-requires-2 c κs = search rules
 has-requires-3 : tie.Need-has-requires-3
 has-requires-3 c κs = search rules
 
-returns : tie.Need-returns
+returns : tie.Need-returns-then-has
 returns c =
     let h = c.before in
     let st = h.before.before.before.before in
     let a = st.args in
-    reaches-not a.t.now a.s a.a a.b a.c st.requires.0 st.requires.1 h.before.before.has.ensures h.before.has2.ensures h.has3.ensures c.if1.true
+    reaches-not a.t.now a.s a.a a.b a.c st.requires.0 st.requires.1 h.before.before.has.ensures h.before.has-2.ensures h.has-3.ensures c.if-has.true
 
 byte-requires : tie.Need-byte-requires
 byte-requires c κs = search rules
 
-returns_2 : tie.Need-returns-2
+returns_2 : tie.Need-returns
 returns_2 c =
     let d = c.before in
     let h = d.before in
     let st = h.before.before.before.before in
     let a = st.args in
-    reaches_by a.t.now a.s a.a a.b a.c st.requires.0 st.requires.1 h.before.before.has.ensures h.before.has2.ensures h.has3.ensures d.if1.false c.byte.result c.byte.ensures.is
+    reaches_by a.t.now a.s a.a a.b a.c st.requires.0 st.requires.1 h.before.before.has.ensures h.before.has-2.ensures h.has-3.ensures d.if-has.false c.byte.result c.byte.ensures.is
 
-pub reaches-spec : {M : Type 1} → statement M
-reaches-spec =
+pub reaches_spec : {M : Type 1} → statement M
+reaches_spec =
     tie.close
     (tie.spec
     has-requires

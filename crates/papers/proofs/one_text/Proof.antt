@@ -77,10 +77,10 @@ module _ (c : tie.After-body-length) where
   abbrev at : ℕ
   at = p (call taken)
 
-  long : c.body_length_lem.result ≡ length (body taken)
-  long = let l = length_good (body taken) (good taken).1.long in omega (arith, c.body_length_lem.ensures, (good taken).0, l.2)
+  long : c.body_length.result ≡ length (body taken)
+  long = let l = length_good (body taken) (good taken).1.long in omega (arith, c.body_length.ensures, (good taken).0, l.2)
 
-  laid : set (set (back_in was (at + 2) (call taken).parse.last.1.1.0) at 0) (at + 1) c.body_length_lem.result ≡ sets was at (with_length (body taken))
+  laid : set (set (back_in was (at + 2) (call taken).parse.last.1.1.0) at 0) (at + 1) c.body_length.result ≡ sets was at (with_length (body taken))
   laid = ap₂ (λ (l : List ℕ) (k : ℕ). set (set l at 0) (at + 1) k) (back taken) long ∙ with_length_lem was (body taken) at
 
 add-from : tie.Need-overflow-add-from
@@ -108,7 +108,7 @@ slice-write-store : tie.Need-slice-write-store
 slice-write-store c = search rules
 
 cast-store : tie.Need-overflow-cast-store
-cast-store c = let f = few c.before.before in omega (arith, c.body_length_lem.ensures)
+cast-store c = let f = few c.before.before in omega (arith, c.body_length.ensures)
 
 add-store : tie.Need-overflow-add-store
 add-store c = search rules
@@ -119,7 +119,7 @@ slice-write-store-2 c =
     simp (length-set, back (taken c), length-sets) (omega arith)
 
 add-end : tie.Need-overflow-add-end
-add-end c = let f = few c.before.before in omega (arith, c.body_length_lem.ensures)
+add-end c = let f = few c.before.before in omega (arith, c.body_length.ensures)
 
 sub-top : tie.Need-overflow-sub-top
 sub-top c = search rules
@@ -148,8 +148,8 @@ returns c =
     let t = text (call (taken d)) in
     let b = body (taken d) in
     let l = long d in
-    let k : at d + 2 + d.body_length_lem.result - (at d + 2) ≡ length b = omega arith in
-    let q : at d + 2 + d.body_length_lem.result ≡ at d + length (with_length b) = omega arith in
+    let k : at d + 2 + d.body_length.result - (at d + 2) ≡ length b = omega arith in
+    let q : at d + 2 + d.body_length.result ≡ at d + length (with_length b) = omega arith in
     let e = c.top.ensures ∙ ap top_of (ap₂ (λ (k : ℕ) (o : List ℕ). take k (drop (at d + 2) o)) k (laid d) ∙ laid_body (was d) b (at d) (room (taken d))) in
     ((ap₂ At q e ∙ sym (next_read t (at d) _ (read (taken d))), laid d), ap length (laid d) ∙ length-sets (was d) (at d) (with_length b))
 

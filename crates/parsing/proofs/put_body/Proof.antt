@@ -13,49 +13,49 @@ use Rattle.bodies.specs.Nodes.{body_length}
 use Rattle.parsing.proofs.put_body.Statement.{statement}
 use Rattle.parsing.proofs.put_body.Tie as tie
 
-first-fault-requires : tie.Need-first-fault-requires
+first-fault-requires : tie.Need-first_fault-verdict-requires
 first-fault-requires c κs = search rules
 
-enum_told : tie.Need-enum-told
+enum_told : tie.Need-enum_told-1
 enum_told c = search rules
 
-enum-known-verdict : tie.Need-enum-known-verdict
+enum-known-verdict : tie.Need-enum_known-verdict
 enum-known-verdict c = search rules
 
-returns : tie.Need-returns
+returns : tie.Need-returns-in-Breaks
 returns c =
-    let v = c.before in
-    let f = v.before.before in
-    is_refused (BadTree v.verdict.given.0.0) (rw (sym f.first-fault.ensures ∙ v.verdict.given.1) refl)
+    let v = c in
+    let f = v.before in
+    is_refused (BadTree v.in-Breaks.x) (rw (sym f.first_fault-verdict.ensures ∙ v.in-Breaks.is) refl)
 
-returns_2 : tie.Need-returns-2
+returns_2 : tie.Need-returns-then-room-body
 returns_2 c =
     let e = c.before in
-    let f = e.before.before in
+    let f = e.before in
     let a = f.before.before.before.args in
-    is_refused ShortRoom (rw (sym f.first-fault.ensures ∙ e.enum_told.given.1, lt-ltb (length a.room.now) (length a.body.now) c.if1.true) refl)
+    is_refused ShortRoom (rw (sym f.first_fault-verdict.ensures ∙ e.in-Fine.is, lt-ltb (length a.room.now) (length a.body.now) c.if-room-body.true) refl)
 
 copy-requires : tie.Need-copy-requires
 copy-requires c κs = search rules
 
-same_length : tie.Need-same-length
+same_length : tie.Need-shape_of-room
 same_length c = search rules
 
-returns_3 : tie.Need-returns-3
+returns_3 : tie.Need-returns
 returns_3 c =
     let p = c.before.before in
     let l = p.before.before in
     let e = l.before in
-    let f = e.before.before in
+    let f = e.before in
     let S = f.before.before.before in
     let a = S.args in
     let k = S.requires in
-    is_done (rw (sym f.first-fault.ensures ∙ e.enum_told.given.1, le-ltb (length a.room.now) (length a.body.now) l.if1.false) refl)
+    is_done (rw (sym f.first_fault-verdict.ensures ∙ e.in-Fine.is, le-ltb (length a.room.now) (length a.body.now) l.if-room-body.false) refl)
     (ap (λ (x : ℕ). record { nodes = x }) (omega arith))
     (p.copy.ensures ∙ ap (written a.room.now) (take_all (body_length a.nodes) a.body.now (omega arith)))
 
-pub put-body-spec : {M : Type 1} → statement M
-put-body-spec =
+pub put_body_spec : {M : Type 1} → statement M
+put_body_spec =
     tie.close
     (tie.spec
     first-fault-requires

@@ -11,29 +11,29 @@ use Rattle.pi.proofs.Cores.{Chain, chain_end, chain_next, chain_start, next_a, n
 use Rattle.pi.proofs.core.Statement.{statement}
 use Rattle.pi.proofs.core.Tie as tie
 
-abbrev invariant-loop : tie.invariant-loop
+abbrev invariant-loop : tie.invariant-loop-y
 invariant-loop masks s a c x₀ y₀ x y =
     (x < 2 ^ 64) × (y < 2 ^ 64) × ((E : Triplets) → Proper E → Masks E masks → So (has s a) → So (has s c) → Chain E s a c x y) × Subset y x
 
-abbrev decreases-loop : tie.decreases-loop
+abbrev decreases-loop : tie.decreases-loop-y
 decreases-loop masks s a c x₀ y₀ x y = size x
 
-pair-requires : tie.Need-pair-requires invariant-loop decreases-loop
+pair-requires : tie.Need-pair-y-requires invariant-loop decreases-loop
 pair-requires c κs = search rules
 
-loop_holds : tie.Need-loop-init invariant-loop decreases-loop
-loop_holds c = (omega arith, omega arith, (λ E pr m ha hc. chain_start E _ _ _ _ ha hc (c.pair.ensures.1 E pr m ha hc)), c.pair.ensures.0)
+loop_holds : tie.Need-loop-y-init invariant-loop decreases-loop
+loop_holds c = (omega arith, omega arith, (λ E pr m ha hc. chain_start E _ _ _ _ ha hc (c.pair-y.ensures.1 E pr m ha hc)), c.pair-y.ensures.0)
 
-pair-requires-2 : tie.Need-pair-requires-2 invariant-loop decreases-loop
+pair-requires-2 : tie.Need-pair-y-requires-in-loop-y invariant-loop decreases-loop
 pair-requires-2 c κs = search rules
 
-loop_less : tie.Need-loop-smaller invariant-loop decreases-loop
-loop_less c = let l = c.before.before.loop in size_proper l.y l.x l.invariant.3 c.before.loop-test.true
+loop_less : tie.Need-loop-y-smaller invariant-loop decreases-loop
+loop_less c = let l = c.before.before.loop-y in size_proper l.y l.x l.invariant.3 c.before.loop-y-test.true
 
-loop_again : tie.Need-loop-preserved invariant-loop decreases-loop
+loop_again : tie.Need-loop-y-preserved invariant-loop decreases-loop
 loop_again c =
-    let l = c.before.before.loop in
-    let p = c.pair2.ensures in (
+    let l = c.before.before.loop-y in
+    let p = c.pair-y-in-loop-y.ensures in (
       l.invariant.1,
       omega arith,
       (λ E pr m ha hc. let h = l.invariant.2 E pr m ha hc in
@@ -42,7 +42,7 @@ loop_again c =
     )
 
 returns : tie.Need-returns invariant-loop decreases-loop
-returns c E pr m ha hc = let l = c.before.loop in chain_end E _ _ _ _ _ c.loop-test.false (l.invariant.2 E pr m ha hc)
+returns c E pr m ha hc = let l = c.before.loop-y in chain_end E _ _ _ _ _ c.loop-y-test.false (l.invariant.2 E pr m ha hc)
 
 pub core_spec : {M : Type 1} → statement M
 core_spec =

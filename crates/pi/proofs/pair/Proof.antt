@@ -27,7 +27,7 @@ returns c =
     let s = p.before in
     let e = c.meet.ensures ∙ ap (meet s.args.s) u.union.ensures in (
       pair_inside s.args.s u.union.result c.meet.result c.meet.ensures,
-      λ E pr m ha hc. ap has e ∙ pair-number E pr s.args.s s.args.a s.args.c _ _ (omega arith) ha hc (p.part.ensures E pr m ha) (q.part2.ensures E pr m hc),
+      λ E pr m ha hc. ap has e ∙ pair-number E pr s.args.s s.args.a s.args.c _ _ (omega arith) ha hc (p.part.ensures E pr m ha) (q.part-2.ensures E pr m hc),
     )
 
 pub pair_spec : {M : Type 1} → statement M

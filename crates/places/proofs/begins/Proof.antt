@@ -6,24 +6,24 @@ use borrow.Author.Rules.{rules}
 use Rattle.places.proofs.begins.Statement.{statement}
 use Rattle.places.proofs.begins.Tie as tie
 
-returns : tie.Need-returns
-returns c = no_node_elsewhere c.before.args.b _ (not-true _ c.if1.true)
+returns : tie.Need-returns-then-not-fresh
+returns c = no_node_elsewhere c.before.args.b _ (not-true _ c.if-not-fresh.true)
 
-returns_2 : tie.Need-returns-2
-returns_2 c = opening_begins c.before.before.args.b c.if2.true _ (not-false _ c.before.if1.false)
+returns_2 : tie.Need-returns-then-b-eq40
+returns_2 c = opening_begins c.before.before.args.b c.if-b-eq40.true _ (not-false _ c.before.if-not-fresh.false)
 
-returns_3 : tie.Need-returns-3
+returns_3 : tie.Need-returns-then-digit
 returns_3 c =
     let d = c.before in
     let e = d.before.before in
-    digit_begins e.before.args.b (sym d.digit.ensures ∙ c.if3.true) _ (not-false _ e.if1.false)
+    digit_begins e.before.args.b (sym d.digit.ensures ∙ c.if-digit.true) _ (not-false _ e.if-not-fresh.false)
 
-returns_4 : tie.Need-returns-4
+returns_4 : tie.Need-returns
 returns_4 c =
     let d = c.before in
     let e = d.before.before in
-    none_begins e.before.args.b d.before.if2.false (sym d.digit.ensures ∙ c.if3.false) _ (not-false _ e.if1.false)
+    none_begins e.before.args.b d.before.if-b-eq40.false (sym d.digit.ensures ∙ c.if-digit.false) _ (not-false _ e.if-not-fresh.false)
 
-pub begins-spec : {M : Type 1} → statement M
-begins-spec = tie.close (tie.spec
+pub begins_spec : {M : Type 1} → statement M
+begins_spec = tie.close (tie.spec
     returns returns_2 (λ c κs. search rules) returns_3 returns_4)

@@ -6,14 +6,14 @@ use Rattle.places.specs.Causes.{cause_of}
 use Rattle.places.proofs.cause_of.Statement.{statement}
 use Rattle.places.proofs.cause_of.Tie as tie
 
-returns : tie.Need-returns
-returns c = ap cause_of (sym c.before.why.given.1)
+returns : tie.Need-returns-in-BadText
+returns c = ap cause_of (sym c.in-BadText.is)
 
-returns_2 : tie.Need-returns-2
-returns_2 c = ap cause_of (sym c.before.why2.given.1)
+returns_2 : tie.Need-returns-in-BadTree
+returns_2 c = ap cause_of (sym c.in-BadTree.is)
 
-returns_3 : tie.Need-returns-3
-returns_3 c = other_cause c.before.args.why c.match.keys3
+returns_3 : tie.Need-returns-in_default
+returns_3 c = other_cause c.before.args.why c.in_default.in_default-own.keys3
 
-pub cause-of-spec : {M : Type 1} → statement M
-cause-of-spec = tie.close (tie.spec (λ c. search rules) (λ c. search rules) returns returns_2 returns_3)
+pub cause_of_spec : {M : Type 1} → statement M
+cause_of_spec = tie.close (tie.spec (λ c. search rules) (λ c. search rules) returns returns_2 returns_3)

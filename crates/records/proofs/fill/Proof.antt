@@ -12,52 +12,52 @@ use Rattle.records.specs.Records.{fill}
 use Rattle.records.proofs.fill.Statement.{statement}
 use Rattle.records.proofs.fill.Tie as tie
 
-abbrev invariant-loop : tie.invariant-loop
+abbrev invariant-loop : tie.invariant-loop-i
 invariant-loop n s records table₀ set₀ i₀ table set i =
     (i ≤ length records) × (length table ≡ length table₀) × (fill (drop i records) table ≡ fill records table₀) × (gathered_set set (drop i records) ≡ gathered_set s records)
 
-abbrev decreases-loop : tie.decreases-loop
+abbrev decreases-loop : tie.decreases-loop-i
 decreases-loop n s records table₀ set₀ i₀ table set i = length records - i
 
-loop_holds : tie.Need-loop-init invariant-loop decreases-loop
+loop_holds : tie.Need-loop-i-init invariant-loop decreases-loop
 loop_holds c = (search rules, refl, refl, refl)
 
-mul-put-record : tie.Need-overflow-mul-put-record invariant-loop decreases-loop
+mul-put-record : tie.Need-offset_bounds-records-i invariant-loop decreases-loop
 mul-put-record c = search rules
 
-shared-slice-copy-out-put-record : tie.Need-shared-slice-copy-out-put-record invariant-loop decreases-loop
+shared-slice-copy-out-put-record : tie.Need-bounds-records-i invariant-loop decreases-loop
 shared-slice-copy-out-put-record c = search rules
 
-put-record-requires : tie.Need-put-record-requires invariant-loop decreases-loop
+put-record-requires : tie.Need-put_record-set-requires invariant-loop decreases-loop
 put-record-requires c κs =
-    let l = c.before.before.before.loop in
+    let l = c.before.before.before.loop-i in
     let b = c.before.before.before.before.before in
     (b.requires.0, l.invariant.1 ∙ b.requires.1, first_bad-none b.args.n b.args.records.now b.requires.2 l.i (omega arith))
 
-add-i : tie.Need-overflow-add-i invariant-loop decreases-loop
+add-i : tie.Need-overflow_add-i invariant-loop decreases-loop
 add-i c = search rules
 
-loop_less : tie.Need-loop-smaller invariant-loop decreases-loop
+loop_less : tie.Need-loop-i-smaller invariant-loop decreases-loop
 loop_less c = search rules
 
-loop_again : tie.Need-loop-preserved invariant-loop decreases-loop
+loop_again : tie.Need-loop-i-preserved invariant-loop decreases-loop
 loop_again c =
-    let l = c.before.before.before.before.before.before.loop in
+    let l = c.before.before.before.before.before.before.loop-i in
     let b = c.before.before.before.before.before.before.before.before in
-    let p = c.before.before.put_record in
+    let p = c.before.before.put_record-set in
     let rs = b.args.records.now in (
       omega arith,
-      p.auto.0 ∙ l.invariant.1,
+      p.auto.table ∙ l.invariant.1,
       ap (fill (drop (l.i + 1) rs)) p.ensures.1 ∙ sym (fill-next rs l.i l.table (omega arith)) ∙ l.invariant.2,
       set_next rs l.i l.set p.result (omega arith) p.ensures.0 ∙ l.invariant.3,
     )
 
-same_length : tie.Need-same-length invariant-loop decreases-loop
-same_length c = c.before.loop.invariant.1
+same_length : tie.Need-shape_of-table invariant-loop decreases-loop
+same_length c = c.before.loop-i.invariant.1
 
 returns : tie.Need-returns invariant-loop decreases-loop
 returns c =
-    let l = c.before.loop in
+    let l = c.before.loop-i in
     let rs = c.before.before.before.args.records.now in
     (sym (set_end rs l.i l.set (omega arith)) ∙ l.invariant.3, sym (fill_end rs l.i l.table (omega arith)) ∙ l.invariant.2)
 

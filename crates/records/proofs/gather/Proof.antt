@@ -20,8 +20,8 @@ returns : tie.Need-returns
 returns c =
     let b = c.before in
     let a = b.before.before in
-    c.with3.ensures ∙ ap (λ (x : ℕ). union x (single a.args.c)) (b.with2.ensures ∙ ap (λ (x : ℕ). union x (single a.args.b)) b.before.with.ensures)
+    c.with-3.ensures ∙ ap (λ (x : ℕ). union x (single a.args.c)) (b.with-2.ensures ∙ ap (λ (x : ℕ). union x (single a.args.b)) b.before.with.ensures)
     ∙ three-gather a.args.s a.args.a a.args.b a.args.c a.requires.0 a.requires.1 a.requires.2
 
-pub gather-spec : {M : Type 1} → statement M
-gather-spec = tie.close (tie.spec with-requires with-requires-2 with-requires-3 returns)
+pub gather_spec : {M : Type 1} → statement M
+gather_spec = tie.close (tie.spec with-requires with-requires-2 with-requires-3 returns)

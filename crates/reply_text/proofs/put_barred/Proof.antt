@@ -4,6 +4,6 @@ use Rattle.writing.proofs.Writing.{writes_both}
 use Rattle.reply_text.proofs.put_barred.Statement.{statement}
 use Rattle.reply_text.proofs.put_barred.Tie as tie
 
-pub put-barred-spec : {M : Type 1} → statement M
-put-barred-spec = tie.close (tie.spec (λ c κs. search rules) (λ c κs. search rules) (λ c. search rules)
-    (λ c. let z = c.before.before in writes_both z.before.before.before.before.put-lent.ensures z.put.ensures))
+pub put_barred_spec : {M : Type 1} → statement M
+put_barred_spec = tie.close (tie.spec (λ c κs. search rules) (λ c κs. search rules) (λ c. search rules)
+    (λ c. let z = c.before.before in writes_both z.before.before.before.before.put_lent-a.ensures z.put.ensures))

@@ -20,14 +20,14 @@ abbrev begun : tie.At-loop invariant-loop decreases-loop → tie.Start invariant
 begun x = x.before.before.before.before.before.before
 
 within : (n : tie.In-loop invariant-loop decreases-loop) → n.before.loop.i < (nodes (begun n.before).args.body.now).count
-within n = omega (arith, n.loop-test.true, n.before.before.number_of_nodes.ensures)
+within n = omega (arith, n.loop-test.true, n.before.before.node-count.ensures)
 
 few : (n : tie.In-loop invariant-loop decreases-loop) → n.before.loop.i < most_nodes
 few n = let s = begun n.before in omega (arith, within n, preorder_few s.args.body.now s.pre)
 
 -- no node is left
 left : (l : tie.After-loop invariant-loop decreases-loop) → (nodes (begun l.before).args.body.now).count ≤ l.before.loop.i
-left l = omega (arith, l.loop-test.false, l.before.before.number_of_nodes.ensures)
+left l = omega (arith, l.loop-test.false, l.before.before.node-count.ensures)
 
 groups-requires : tie.Need-groups-requires invariant-loop decreases-loop
 groups-requires c κs =

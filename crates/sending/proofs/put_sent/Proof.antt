@@ -45,8 +45,8 @@ module _ (e : tie.After-body-length) where
   abbrev done : tie.After-answer
   done = e.before.before
 
-  room_fits : e.body_length_lem.result ≤ length (room done)
-  room_fits = omega (arith, (good done).few, e.body_length_lem.ensures, done.before.before.before.room2.given)
+  room_fits : e.body_length.result ≤ length (room done)
+  room_fits = omega (arith, (good done).few, e.body_length.ensures, done.before.before.before.room2.given)
 
 body-length-requires : tie.Need-body-length-requires
 body-length-requires c κs = (good c.before).few
@@ -68,7 +68,7 @@ put-lines-requires c κs =
     let e = c.before.before.before in
     let k = done e in
     let s = st k in
-    let q = sym e.body_length_lem.ensures in
+    let q = sym e.body_length.ensures in
     (s.pre.0, subst (λ (j : ℕ). Body s.args.n (take j (room k))) q (good k).body, subst (λ (j : ℕ). InPreorder (take j (room k))) q (good k).preorder)
 
 returns : tie.Need-returns
@@ -78,7 +78,7 @@ returns c =
     let k = done e in
     let s = (st k).args in
     let l = (loosened k).loosen.ensures in
-    let told = done_told s.n s.t.now s.body.now _ l.is (lent (room k) (list k)) l.holds (w k) k.answer.given.1 _ e.body_length_lem.ensures in
+    let told = done_told s.n s.t.now s.body.now _ l.is (lent (room k) (list k)) l.holds (w k) k.answer.given.1 _ e.body_length.ensures in
     writes_as told p.put-lines.ensures
 
 returns_2 : tie.Need-returns-2

@@ -7,16 +7,20 @@ use Rattle.sets.proofs.all.Tie as tie
 single-requires : tie.Need-single-requires
 single-requires c κs = search rules
 
-sub-result : tie.Need-overflow-sub-result
-sub-result c = omega (arith, pow_pos c.before.before.args.n)
+overflow_sub-result : tie.Need-overflow_sub-result
+overflow_sub-result c = omega (arith, pow_pos c.before.before.args.n)
 
-returns : tie.Need-returns
-returns c =
+returns-then-n-eq64 : tie.Need-returns-then-n-eq64
+returns-then-n-eq64 c =
     let e : c.before.args.n ≡ 64 = omega arith in
     sym (ap upto e)
 
-returns_2 : tie.Need-returns-2
-returns_2 c = search rules
+returns-else-n-eq64 : tie.Need-returns-else-n-eq64
+returns-else-n-eq64 c = search rules
 
-pub all-spec : {M : Type 1} → statement M
-all-spec = tie.close (tie.spec single-requires sub-result returns returns_2)
+pub all_spec : {M : Type 1} → statement M
+all_spec = tie.close (tie.spec
+    single-requires
+    overflow_sub-result
+    returns-then-n-eq64
+    returns-else-n-eq64)

@@ -5,11 +5,13 @@ use Rattle.sets.proofs.Least.{lowest_of}
 use Rattle.sets.proofs.lowest.Statement.{statement}
 use Rattle.sets.proofs.lowest.Tie as tie
 
-cast-result : tie.Need-overflow-cast-result
-cast-result c = omega (arith, trailing_le 64 c.args.s)
+overflow_cast-result : tie.Need-overflow_cast-result
+overflow_cast-result c = omega (arith, trailing_le 64 c.args.s)
 
 returns : tie.Need-returns
 returns c = lowest_of c.args.s c.ranges.s.fits
 
-pub lowest-spec : {M : Type 1} → statement M
-lowest-spec = tie.close (tie.spec cast-result returns)
+pub lowest_spec : {M : Type 1} → statement M
+lowest_spec = tie.close (tie.spec
+    overflow_cast-result
+    returns)

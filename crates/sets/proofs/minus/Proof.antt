@@ -6,5 +6,6 @@ use Rattle.sets.proofs.minus.Tie as tie
 returns : tie.Need-returns
 returns c = and-not _ _ c.ranges.s.fits c.ranges.t.fits
 
-pub minus-spec : {M : Type 1} → statement M
-minus-spec = tie.close (tie.spec returns)
+pub minus_spec : {M : Type 1} → statement M
+minus_spec = tie.close (tie.spec
+    returns)

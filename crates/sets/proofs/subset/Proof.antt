@@ -7,5 +7,6 @@ use Rattle.sets.proofs.subset.Tie as tie
 returns : tie.Need-returns
 returns c = (λ e. subset_of_meet _ _ (eqb-true _ _ e), λ h. eq-eqb _ _ (meet_of_subset _ _ h))
 
-pub subset-spec : {M : Type 1} → statement M
-subset-spec = tie.close (tie.spec returns)
+pub subset_spec : {M : Type 1} → statement M
+subset_spec = tie.close (tie.spec
+    returns)

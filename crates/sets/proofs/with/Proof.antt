@@ -9,5 +9,7 @@ single-requires c κs = search rules
 returns : tie.Need-returns
 returns c = cc
 
-pub with-spec : {M : Type 1} → statement M
-with-spec = tie.close (tie.spec single-requires returns)
+pub with_spec : {M : Type 1} → statement M
+with_spec = tie.close (tie.spec
+    single-requires
+    returns)

@@ -39,8 +39,8 @@ abbrev done : tie.After-body-length → tie.After-a
 done b = b.before.before
 
 -- the room is as long as it was
-long : (b : tie.After-body-length) → b.body_length_lem.result ≤ length (built (told (done b))).build.new.1.1.1.0
-long b = omega (arith, inside (done b), b.body_length_lem.ensures, (told (done b)).before.before.before.before.room2.given)
+long : (b : tie.After-body-length) → b.body_length.result ≤ length (built (told (done b))).build.new.1.1.1.0
+long b = omega (arith, inside (done b), b.body_length.ensures, (told (done b)).before.before.before.before.room2.given)
 
 body-length-requires : tie.Need-body-length-requires
 body-length-requires c κs = omega (arith, inside c.before)
@@ -59,7 +59,7 @@ returns c =
     let l = told a in
     let x = (built l).build.ensures in
     let s = (begun l).args in
-    let e = done_told s.n s.set s.t.now _ _ _ (numbers l) (ap (λ (z : Counted). z.answer) x.is) x.holds a.a.given.0.0 b.body_length_lem.result a.a.given.1 b.body_length_lem.ensures in
+    let e = done_told s.n s.set s.t.now _ _ _ (numbers l) (ap (λ (z : Counted). z.answer) x.is) x.holds a.a.given.0.0 b.body_length.result a.a.given.1 b.body_length.ensures in
     writes_as e (writes_both l.put-shown.ensures d.body-lines.ensures)
 
 returns_2 : tie.Need-returns-2

@@ -9,43 +9,43 @@ use Rattle.species_text.proofs.Walked.{Walked, walk_end, walk_next, walk_start}
 use Rattle.species_text.proofs.put_species.Statement.{statement}
 use Rattle.species_text.proofs.put_species.Tie as tie
 
-abbrev invariant-loop : tie.invariant-loop
+abbrev invariant-loop : tie.invariant-loop-left
 invariant-loop out₀ at w s next₀ left₀ out next left = (left < 2 ^ 64) × Walked out₀ next₀ s out next left
 
-abbrev decreases-loop : tie.decreases-loop
+abbrev decreases-loop : tie.decreases-loop-left
 decreases-loop out₀ at w s next₀ left₀ out next left = size left
 
-abbrev worded : tie.At-loop invariant-loop decreases-loop → tie.After-put-word invariant-loop decreases-loop
+abbrev worded : tie.At-loop-left invariant-loop decreases-loop → tie.After-put_word-next invariant-loop decreases-loop
 worded x = x.before.before.before
 
-abbrev turn : tie.After-rest invariant-loop decreases-loop → tie.In-loop invariant-loop decreases-loop
+abbrev turn : tie.After-rest-left invariant-loop decreases-loop → tie.In-loop-left invariant-loop decreases-loop
 turn c = c.before.before.before.before.before.before.before.before.before.before
 
-loop_less : tie.Need-loop-smaller invariant-loop decreases-loop
-loop_less c = omega (arith, c.rest.ensures.fewer (turn c).loop-test.true)
+loop_less : tie.Need-loop-left-smaller invariant-loop decreases-loop
+loop_less c = omega (arith, c.rest-left.ensures.fewer (turn c).loop-test.true)
 
-loop_again : tie.Need-loop-preserved invariant-loop decreases-loop
+loop_again : tie.Need-loop-left-preserved invariant-loop decreases-loop
 loop_again c =
     let l = c.before.before.before.before in
     let x = (turn c).before in
-    let v = x.loop.inv in
-    let y = writes_both l.before.before.before.before.put.ensures c.before.before.before.put-decimal.ensures in
-    (omega arith, walk_next v.1 v.0 (turn c).loop-test.true _ l.lowest.ensures _ c.rest.ensures _ _ y)
+    let v = x.loop-left.inv in
+    let y = writes_both l.before.before.before.before.put-begun.ensures c.before.before.before.put_decimal-next.ensures in
+    (omega arith, walk_next v.1 v.0 (turn c).loop-test.true _ l.lowest.ensures _ c.rest-left.ensures _ _ y)
 
-same_length : tie.Need-same-length invariant-loop decreases-loop
+same_length : tie.Need-shape_of-out invariant-loop decreases-loop
 same_length c =
     let x = c.before.before.before.before.before in
-    c.before.before.put2.ensures.kept ∙ x.loop.invariant.1.wrote.kept ∙ (worded x).put_word.ensures.kept
+    c.before.before.put.ensures.kept ∙ x.loop-left.invariant.1.wrote.kept ∙ (worded x).put_word.ensures.kept
 
 returns : tie.Need-returns invariant-loop decreases-loop
 returns c =
     let q = c.before.before in
     let n = q.before.before in
     let x = n.before in
-    writes_both (writes_both (worded x).put_word.ensures (walk_end x.loop.invariant.1 n.loop-test.false)) q.put2.ensures
+    writes_both (writes_both (worded x).put_word.ensures (walk_end x.loop-left.invariant.1 n.loop-left-test.false)) q.put.ensures
 
-pub put-species-spec : {M : Type 1} → statement M
-put-species-spec =
+pub put_species_spec : {M : Type 1} → statement M
+put_species_spec =
     tie.close
     (tie.spec
     invariant-loop

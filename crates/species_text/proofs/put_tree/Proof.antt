@@ -14,48 +14,48 @@ use Rattle.species_text.proofs.put_tree.Statement.{statement}
 use Rattle.species_text.proofs.put_tree.Tie as tie
 
 -- once the text stands in the room
-module _ (k : tie.After-answer) where
-  abbrev rendered : tie.After-render
-  rendered = k.before.before.before
+module _ (k : tie.In-Done) where
+  abbrev rendered : tie.After-render-answer
+  rendered = k.before.before
 
   abbrev st : tie.Start
   st = rendered.before.before.before.before.before
 
   abbrev text : Text
-  text = k.answer.given.0.0
+  text = k.in-Done.x
 
   abbrev room : List ℕ
-  room = rendered.render.last.1.1.0
+  room = rendered.render-answer.last.1.1.0
 
   inside : text.length ≤ length room
-  inside = text_inside st.pre.0 st.pre.1 (omega arith) rendered.render.ensures text k.answer.given.1
+  inside = text_inside st.requires.0 st.requires.1 (omega arith) rendered.render-answer.ensures text k.in-Done.is
 
   is : take text.length room ≡ newick_text st.args.body.now
-  is = text_is st.pre.0 st.pre.1 (omega arith) rendered.render.ensures text k.answer.given.1
+  is = text_is st.requires.0 st.requires.1 (omega arith) rendered.render-answer.ensures text k.in-Done.is
 
-array-share-prefix-text : tie.Need-array-share-prefix-text
-array-share-prefix-text c = inside c.before.before.before.before.before.before
+array-share-prefix-text : tie.Need-slice_bounds-text-end
+array-share-prefix-text c = inside c.before.before.before.before.before
 
-slice-aggregate-put-word : tie.Need-slice-aggregate-put-word
-slice-aggregate-put-word c = sym (length-take-le _ _ (inside c.before.before.before.before.before.before.before))
+slice-aggregate-put-word : tie.Need-slice_bounds-put_word-end
+slice-aggregate-put-word c = sym (length-take-le _ _ (inside c.before.before.before.before.before.before))
 
-returns : tie.Need-returns
+returns : tie.Need-returns-in-Done
 returns c =
     let r = c.before.before in
     let q = r.before.before.before.before in
     let t = q.before in
-    let k = t.before.before.before.before.before.before.before in
-    let p = t.before.before.before.before.put_word.ensures in
-    writes_both (writes_both p (writes_as (is k) q.put-word2.ensures)) r.put.ensures
+    let k = t.before.before.before.before.before.before in
+    let p = t.before.before.before.before.put_word-a.ensures in
+    writes_both (writes_both p (writes_as (is k) q.put_word-b.ensures)) r.put.ensures
 
-returns_2 : tie.Need-returns-2
+returns_2 : tie.Need-returns-in-Refused
 returns_2 c =
-    let r = c.before.before.before in
+    let r = c.before.before in
     let s = r.before.before.before.before.before in
-    absurd (not_refused s.requires.0 s.requires.1 (omega arith) r.render.ensures _ c.enum_told.given.1)
+    absurd (not_refused s.requires.0 s.requires.1 (omega arith) r.render-answer.ensures _ c.in-Refused.is)
 
-pub put-tree-spec : {M : Type 1} → statement M
-put-tree-spec =
+pub put_tree_spec : {M : Type 1} → statement M
+put_tree_spec =
     tie.close
     (tie.spec
     (λ c. search rules)

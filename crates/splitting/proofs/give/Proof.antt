@@ -10,57 +10,50 @@ use Rattle.splitting.proofs.Walks.{Walked, walk_end, walk_next, walk_start}
 use Rattle.splitting.proofs.give.Statement.{statement}
 use Rattle.splitting.proofs.give.Tie as tie
 
-abbrev invariant-loop : tie.invariant-loop
+abbrev invariant-loop : tie.invariant-loop-left
 invariant-loop row a g₀ left₀ g left = Walked row (λ i x y. (x ≡ i) × (y ≡ a)) g₀ g left
 
-abbrev decreases-loop : tie.decreases-loop
+abbrev decreases-loop : tie.decreases-loop-left
 decreases-loop row a g₀ left₀ g left = size left
 
-loop_holds : tie.Need-loop-init invariant-loop decreases-loop
+loop_holds : tie.Need-loop-left-init invariant-loop decreases-loop
 loop_holds c = walk_start c.requires.1
 
-lowest_requires : tie.Need-lowest-requires invariant-loop decreases-loop
+lowest_requires : tie.Need-lowest-i-requires invariant-loop decreases-loop
 lowest_requires c κs = search rules
 
--- the row that a goes into is one of 64
-small : (c : tie.After-lowest invariant-loop decreases-loop) → c.lowest.result < 64
-small c = c.lowest.ensures.small c.before.loop-test.true
+mul-with : tie.Need-offset_bounds-g-i invariant-loop decreases-loop
+mul-with c = omega (arith, c.lowest-i.ensures.small c.loop-left-test.true)
 
-mul-with : tie.Need-overflow-mul-with invariant-loop decreases-loop
-mul-with c = omega (arith, small c)
-
-element-copy-out-with : tie.Need-element-copy-out-with invariant-loop decreases-loop
-element-copy-out-with c = omega (arith, small c)
+element-copy-out-with : tie.Need-bounds-g-i invariant-loop decreases-loop
+element-copy-out-with c = omega (arith, c.lowest-i.ensures.small c.loop-left-test.true)
 
 with-requires : tie.Need-with-requires invariant-loop decreases-loop
-with-requires c κs = omega (arith, small c.before)
+with-requires c κs = omega (arith, c.lowest-i.ensures.small c.loop-left-test.true)
 
-mul-g : tie.Need-overflow-mul-g invariant-loop decreases-loop
-mul-g c = omega (arith, small c.before.before)
+mul-g : tie.Need-offset_bounds-g-i-in-loop-left invariant-loop decreases-loop
+mul-g c = omega (arith, c.lowest-i.ensures.small c.loop-left-test.true)
 
-element-write-g : tie.Need-element-write-g invariant-loop decreases-loop
-element-write-g c = omega (arith, small c.before.before)
+element-write-g : tie.Need-bounds-g-i-in-loop-left invariant-loop decreases-loop
+element-write-g c = omega (arith, c.lowest-i.ensures.small c.loop-left-test.true)
 
-rest-requires : tie.Need-rest-requires invariant-loop decreases-loop
+rest-requires : tie.Need-rest-left-requires invariant-loop decreases-loop
 rest-requires c κs = search rules
 
-loop_less : tie.Need-loop-smaller invariant-loop decreases-loop
-loop_less c = omega (arith, c.rest.ensures.fewer c.before.before.before.before.loop-test.true)
+loop_less : tie.Need-loop-left-smaller invariant-loop decreases-loop
+loop_less c = omega (arith, c.rest-left.ensures.fewer c.loop-left-test.true)
 
-loop_again : tie.Need-loop-preserved invariant-loop decreases-loop
+loop_again : tie.Need-loop-left-preserved invariant-loop decreases-loop
 loop_again c =
-    let w = c.before in
-    let k = w.before.before in
-    let i = k.before in
-    let l = i.before.loop in
-    let a = i.before.before.args in
-    let r = grown_put l.g k.lowest.result a.a w.with.result l.invariant.grown.size (small k) w.with.ensures in
-    walk_next i.loop-test.true k.lowest.ensures c.rest.ensures r l.invariant
+    let l = c.loop-left in
+    let a = c.args in
+    let r = grown_put l.g c.lowest-i.result a.a c.with.result l.invariant.grown.size (c.lowest-i.ensures.small c.loop-left-test.true) c.with.ensures in
+    walk_next c.loop-left-test.true c.lowest-i.ensures c.rest-left.ensures r l.invariant
 
 returns : tie.Need-returns invariant-loop decreases-loop
 returns c =
     let a = c.before.before.args in
-    given_end a.row a.a (walk_end c.loop-test.false c.before.loop.invariant)
+    given_end a.row a.a (walk_end c.loop-left-test.false c.before.loop-left.invariant)
 
 pub give_spec : {M : Type 1} → statement M
 give_spec =

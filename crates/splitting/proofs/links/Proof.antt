@@ -15,78 +15,78 @@ use Rattle.splitting.specs.Rows.{InLevel}
 use Rattle.splitting.proofs.links.Statement.{statement}
 use Rattle.splitting.proofs.links.Tie as tie
 
-abbrev invariant-loop : tie.invariant-loop
+abbrev invariant-loop : tie.invariant-loop-left
 invariant-loop t s g₀ left₀ looked₀ g left looked = Walked s (λ c. InLevel (entered t) (meet s (upto c)) c) g₀ g left × Counted s 3 left looked
 
-abbrev decreases-loop : tie.decreases-loop
+abbrev decreases-loop : tie.decreases-loop-left
 decreases-loop t s g₀ left₀ looked₀ g left looked = size left
 
-loop_holds : tie.Need-loop-init invariant-loop decreases-loop
+loop_holds : tie.Need-loop-left-init invariant-loop decreases-loop
 loop_holds c = (walk_start (length-replicate {A = ℕ} 64 0), count_start c.before.args.s 2)
 
-lowest_requires : tie.Need-lowest-requires invariant-loop decreases-loop
+lowest_requires : tie.Need-lowest-c-requires invariant-loop decreases-loop
 lowest_requires c κs = search rules
 
 all-requires : tie.Need-all-requires invariant-loop decreases-loop
-all-requires c κs = omega (arith, c.lowest.ensures.small c.before.loop-test.true)
+all-requires c κs = omega (arith, c.lowest-c.ensures.small c.before.loop-left-test.true)
 
 meet-requires : tie.Need-meet-requires invariant-loop decreases-loop
 meet-requires c κs = search rules
 
 -- the species of s below the lowest of those left
 under : (c : tie.After-meet invariant-loop decreases-loop)
-    → c.meet.result ≡ meet c.before.before.before.before.before.before.args.s (upto c.before.before.lowest.result)
+    → c.meet.result ≡ meet c.before.before.before.before.before.before.args.s (upto c.before.before.lowest-c.result)
 under c = c.meet.ensures ∙ ap (meet c.before.before.before.before.before.before.args.s) c.before.all.ensures
 
-level-requires : tie.Need-level-requires invariant-loop decreases-loop
+level-requires : tie.Need-level-looked-requires invariant-loop decreases-loop
 level-requires c κs =
     let m = c.before in
     let k = m.before.before in
     let i = k.before in
     let s = i.before.before.before in (
-      under-below s.args.s k.lowest.result m.meet.result (under m),
-      k.lowest.ensures.small i.loop-test.true,
-      i.before.loop.invariant.0.grown.size,
+      under-below s.args.s k.lowest-c.result m.meet.result (under m),
+      k.lowest-c.ensures.small i.loop-left-test.true,
+      i.before.loop-left.invariant.0.grown.size,
     )
 
-add-looked : tie.Need-overflow-add-looked invariant-loop decreases-loop
+add-looked : tie.Need-overflow_add-looked invariant-loop decreases-loop
 add-looked c =
     let m = c.before.before in
     let i = m.before.before.before in
     let st = i.before.before.before in
-    omega (arith, count_few (omega arith) st.ranges.s.fits i.before.loop.invariant.1, c.level.ensures.1, few 2 m.meet.result (omega arith) (omega arith))
+    omega (arith, count_few (omega arith) st.ranges.s.fits i.before.loop-left.invariant.1, c.level-looked.ensures.1, few 2 m.meet.result (omega arith) (omega arith))
 
-rest-requires : tie.Need-rest-requires invariant-loop decreases-loop
+rest-requires : tie.Need-rest-left-requires invariant-loop decreases-loop
 rest-requires c κs = search rules
 
-loop_less : tie.Need-loop-smaller invariant-loop decreases-loop
-loop_less c = omega (arith, c.rest.ensures.fewer c.before.before.before.before.before.before.loop-test.true)
+loop_less : tie.Need-loop-left-smaller invariant-loop decreases-loop
+loop_less c = omega (arith, c.rest-left.ensures.fewer c.before.before.before.before.before.before.loop-left-test.true)
 
-loop_again : tie.Need-loop-preserved invariant-loop decreases-loop
+loop_again : tie.Need-loop-left-preserved invariant-loop decreases-loop
 loop_again c =
     let m = c.before.before.before in
     let k = m.before.before in
     let i = k.before in
     let a = i.before.before.before.args in
-    let r = grown_under a.s k.lowest.result m.meet.result (under m) (λ z. InLevel (entered a.t.now) z k.lowest.result) c.before.level.ensures.0 in
-    let l = i.before.loop in (
-      walk_next i.loop-test.true k.lowest.ensures c.rest.ensures r l.invariant.0,
-      count_next i.loop-test.true k.lowest.ensures c.rest.ensures l.invariant.1 (l.looked + c.before.level.result)
-          (ap (λ (z : ℕ). l.looked + z) (c.before.level.ensures.1 ∙ ap (λ (z : ℕ). C (size z) 2) (under m))),
+    let r = grown_under a.s k.lowest-c.result m.meet.result (under m) (λ z. InLevel (entered a.t.now) z k.lowest-c.result) c.before.level-looked.ensures.0 in
+    let l = i.before.loop-left in (
+      walk_next i.loop-left-test.true k.lowest-c.ensures c.rest-left.ensures r l.invariant.0,
+      count_next i.loop-left-test.true k.lowest-c.ensures c.rest-left.ensures l.invariant.1 (l.looked + c.before.level-looked.result)
+          (ap (λ (z : ℕ). l.looked + z) (c.before.level-looked.ensures.1 ∙ ap (λ (z : ℕ). C (size z) 2) (under m))),
     )
 
 mirror-requires : tie.Need-mirror-requires invariant-loop decreases-loop
-mirror-requires c κs = c.before.before.loop.invariant.0.grown.size
+mirror-requires c κs = c.before.before.loop-left.invariant.0.grown.size
 
 returns : tie.Need-returns invariant-loop decreases-loop
 returns c =
     let i = c.before.before in
-    let l = i.before.loop in
+    let l = i.before.loop-left in
     let a = i.before.before.before.args in
-    (triples_show (entered a.t.now) (entered_proper a.t.now) a.s (omega arith) (walk_end i.loop-test.false l.invariant.0) c.mirror.ensures, count_end i.loop-test.false l.invariant.1)
+    (triples_show (entered a.t.now) (entered_proper a.t.now) a.s (omega arith) (walk_end i.loop-left-test.false l.invariant.0) c.mirror.ensures, count_end i.loop-left-test.false l.invariant.1)
 
-pub links-spec : {M : Type 1} → statement M
-links-spec =
+pub links_spec : {M : Type 1} → statement M
+links_spec =
     tie.close
     (tie.spec
     invariant-loop

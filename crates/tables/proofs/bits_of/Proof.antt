@@ -8,14 +8,14 @@ use Rattle.sets.specs.Sets.{digit}
 use Rattle.tables.proofs.bits_of.Statement.{statement}
 use Rattle.tables.proofs.bits_of.Tie as tie
 
-byte-requires : tie.Need-byte-requires
+byte-requires : tie.Need-byte-v-requires
 byte-requires c κs = search rules
 
 returns : tie.Need-returns
 unfolding digit
 returns c =
-    let b = c.byte.ensures in
-    (ap (λ (x : ℕ). eqb (x % 2) 1) (sym (div-one c.byte.result)) ∙ b.ab, b.ac, b.bc)
+    let b = c.byte-v.ensures in
+    (ap (λ (x : ℕ). eqb (x % 2) 1) (sym (div-one c.byte-v.result)) ∙ b.ab, b.ac, b.bc)
 
-pub bits-of-spec : {M : Type 1} → statement M
-bits-of-spec = tie.close (tie.spec byte-requires returns)
+pub bits_of_spec : {M : Type 1} → statement M
+bits_of_spec = tie.close (tie.spec byte-requires returns)

@@ -13,5 +13,5 @@ count-requires c κs = search rules
 returns : tie.Need-returns
 returns c = ap (λ (k : ℕ). eqb (length c.before.before.args.t.now) k) c.count.ensures
 
-pub fits-spec : {M : Type 1} → statement M
-fits-spec = tie.close (tie.spec count-requires returns)
+pub fits_spec : {M : Type 1} → statement M
+fits_spec = tie.close (tie.spec count-requires returns)

@@ -6,7 +6,7 @@ use Rattle.tables.proofs.Bytes.{enter-says}
 use Rattle.tables.proofs.put.Statement.{statement}
 use Rattle.tables.proofs.put.Tie as tie
 
-spot-requires : tie.Need-spot-requires
+spot-requires : tie.Need-spot-s-requires
 spot-requires c κs = search rules
 
 held-requires : tie.Need-held-requires
@@ -15,18 +15,18 @@ held-requires c κs = search rules
 hold-requires : tie.Need-hold-requires
 hold-requires c κs = search rules
 
-same_length : tie.Need-same-length
+same_length : tie.Need-shape_of-t
 same_length c = search rules
 
 returns : tie.Need-returns
 unfolding enter
 returns c =
-    let h = c.before.before in
-    let r = h.before.before in
-    let s = r.before.before.before in
-    let b = s.before.before in
+    let h = c in
+    let r = h in
+    let s = r in
+    let b = s in
     let a = b.args in
-    let e = s.spot.ensures in
+    let e = s.spot-s.ensures in
     let t = a.t.now in
     enter-says t a.a a.b a.c b.requires.4 b.requires.0 _ (h.hold.ensures ∙ rw (r.held.ensures, e.0, e.1) refl)
 

@@ -10,7 +10,7 @@ use Rattle.triples.proofs.combinations.Tie as tie
 count-requires : tie.Need-count-requires
 count-requires c κs = search rules
 
-returns : tie.Need-returns
+returns : tie.Need-returns-then-k-eq3
 returns c =
     let a = c.before.before.args in
     let e : a.k ≡ 3 = omega arith in
@@ -19,11 +19,11 @@ returns c =
 pairs-requires : tie.Need-pairs-requires
 pairs-requires c κs = search rules
 
-returns_2 : tie.Need-returns-2
+returns_2 : tie.Need-returns
 returns_2 c =
     let a = c.before.before.args in
     let e : a.k ≡ 2 = omega arith in
     c.pairs.ensures ∙ ap (λ (k : ℕ). C a.n k) (sym e)
 
-pub combinations-spec : {M : Type 1} → statement M
-combinations-spec = tie.close (tie.spec count-requires returns pairs-requires returns_2)
+pub combinations_spec : {M : Type 1} → statement M
+combinations_spec = tie.close (tie.spec count-requires returns pairs-requires returns_2)

@@ -6,22 +6,22 @@ use Rattle.triples.proofs.Indices.{C-few, two_small, three_small, sixths}
 use Rattle.triples.proofs.count.Statement.{statement}
 use Rattle.triples.proofs.count.Tie as tie
 
-returns : tie.Need-returns
-returns c = sym (C-few c.before.args.n c.if1.true)
+returns : tie.Need-returns-then-n-lt3
+returns c = sym (C-few c.before.args.n c.if-n-lt3.true)
 
-sub-result : tie.Need-overflow-sub-result
+sub-result : tie.Need-overflow_sub-result
 sub-result c = search rules
 
-mul-result : tie.Need-overflow-mul-result
+mul-result : tie.Need-overflow_mul-result
 mul-result c = omega (arith, two_small c.before.args.n (omega arith))
 
-sub-result-2 : tie.Need-overflow-sub-result-2
+sub-result-2 : tie.Need-overflow_sub-result-2
 sub-result-2 c = search rules
 
-mul-result-2 : tie.Need-overflow-mul-result-2
+mul-result-2 : tie.Need-overflow_mul-result-2
 mul-result-2 c = omega (arith, three_small c.before.args.n (omega arith))
 
-returns_2 : tie.Need-returns-2
+returns_2 : tie.Need-returns
 returns_2 c = sixths c.before.args.n (omega arith)
 
 pub count_spec : {M : Type 1} → statement M

@@ -6,36 +6,36 @@ use Rattle.triples.proofs.Indices.{two_small, three_small, halves, sixths}
 use Rattle.triples.proofs.index.Statement.{statement}
 use Rattle.triples.proofs.index.Tie as tie
 
-sub-result : tie.Need-overflow-sub-result
+sub-result : tie.Need-overflow_sub-result
 sub-result c = search rules
 
-mul-result : tie.Need-overflow-mul-result
+mul-result : tie.Need-overflow_mul-result
 mul-result c = omega (arith, two_small c.args.c (omega arith))
 
-sub-result-2 : tie.Need-overflow-sub-result-2
+sub-result-2 : tie.Need-overflow_sub-result-2
 sub-result-2 c = search rules
 
-mul-result-2 : tie.Need-overflow-mul-result-2
+mul-result-2 : tie.Need-overflow_mul-result-2
 mul-result-2 c = omega (arith, three_small c.args.c (omega arith))
 
-sub-result-3 : tie.Need-overflow-sub-result-3
+sub-result-3 : tie.Need-overflow_sub-result-3
 sub-result-3 c = search rules
 
-mul-result-3 : tie.Need-overflow-mul-result-3
+mul-result-3 : tie.Need-overflow_mul-result-3
 mul-result-3 c = omega (arith, two_small c.args.b (omega arith))
 
-add-result : tie.Need-overflow-add-result
+add-result : tie.Need-overflow_add-result
 add-result c = omega (arith, three_small c.args.c (omega arith), two_small c.args.b (omega arith))
 
-add-result-2 : tie.Need-overflow-add-result-2
+add-result-2 : tie.Need-overflow_add-result-2
 add-result-2 c = omega (arith, three_small c.args.c (omega arith), two_small c.args.b (omega arith))
 
 returns : tie.Need-returns
 unfolding index
 returns c = omega (arith, sixths c.args.c (omega arith), halves c.args.b (omega arith))
 
-pub index-spec : {M : Type 1} → statement M
-index-spec =
+pub index_spec : {M : Type 1} → statement M
+index_spec =
     tie.close
     (tie.spec
     sub-result

@@ -8,17 +8,17 @@ use Rattle.triples.proofs.Indices.{two_small, halves}
 use Rattle.triples.proofs.pairs.Statement.{statement}
 use Rattle.triples.proofs.pairs.Tie as tie
 
-returns : tie.Need-returns
+returns : tie.Need-returns-then-n-lt1
 returns c =
     let n = c.before.args.n in
     let e : n ≡ 0 = omega arith in
     sym (ap (λ (k : ℕ). C k 2) e ∙ C-none 1)
 
-mul-result : tie.Need-overflow-mul-result
+mul-result : tie.Need-overflow_mul-result
 mul-result c = omega (arith, two_small c.before.args.n (omega arith))
 
-returns_2 : tie.Need-returns-2
+returns_2 : tie.Need-returns
 returns_2 c = halves c.before.args.n (omega arith)
 
-pub pairs-spec : {M : Type 1} → statement M
-pairs-spec = tie.close (tie.spec returns mul-result returns_2)
+pub pairs_spec : {M : Type 1} → statement M
+pairs_spec = tie.close (tie.spec returns mul-result returns_2)

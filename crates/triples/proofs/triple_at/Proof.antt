@@ -12,21 +12,21 @@ use Rattle.triples.proofs.triple_at.Tie as tie
 count-requires : tie.Need-count-requires
 count-requires c κs = search rules
 
-returns : tie.Need-returns
+returns : tie.Need-returns-then-i-count
 returns c =
     let i = c.before.before.args.i in
-    sym (named_beyond i (subst (λ (x : ℕ). x ≤ i) c.before.count.ensures c.if1.true))
+    sym (named_beyond i (subst (λ (x : ℕ). x ≤ i) c.before.count.ensures c.if-i-count.true))
 
-largest-requires : tie.Need-largest-requires
+largest-requires : tie.Need-largest-high-requires
 largest-requires c κs = search rules
 
 -- there is such a triple
-inside : (c : tie.Else1) → c.before.before.args.i < C 64 3
-inside c = subst (λ (x : ℕ). c.before.before.args.i < x) c.before.count.ensures c.if1.false
+inside : (c : tie.Else-i-count) → c.before.before.args.i < C 64 3
+inside c = subst (λ (x : ℕ). c.before.before.args.i < x) c.before.count.ensures c.if-i-count.false
 
-highest : (c : tie.After-largest) → c.largest.result ≡ high_at 64 c.before.before.before.args.i
+highest : (c : tie.After-largest-high) → c.largest-high.result ≡ high_at 64 c.before.before.before.args.i
 unfolding high_at
-highest c = c.largest.ensures
+highest c = c.largest-high.ensures
 
 count-requires-2 : tie.Need-count-requires-2
 count-requires-2 c κs =
@@ -34,25 +34,25 @@ count-requires-2 c κs =
     omega (arith, (triple_back 64 i (inside c.before)).2, highest c)
 
 -- what the highest species adds to the index, and what the middle one adds
-added : (c : tie.After-count2) → c.count2.result ≡ C (high_at 64 c.before.before.before.before.args.i) 3
-added c = c.count2.ensures ∙ ap (λ (h : ℕ). C h 3) (highest c.before)
+added : (c : tie.After-count-2) → c.count-2.result ≡ C (high_at 64 c.before.before.before.before.args.i) 3
+added c = c.count-2.ensures ∙ ap (λ (h : ℕ). C h 3) (highest c.before)
 
-middle : (c : tie.After-largest2) → c.largest2.result ≡ mid_at 64 c.before.before.before.before.before.args.i
+middle : (c : tie.After-largest-mid) → c.largest-mid.result ≡ mid_at 64 c.before.before.before.before.before.args.i
 unfolding mid_at
 middle c =
     let i = c.before.before.before.before.before.args.i in
-    c.largest2.ensures ∙ ap (λ (r : ℕ). largest 2 64 (i - r)) (added c.before)
+    c.largest-mid.ensures ∙ ap (λ (r : ℕ). largest 2 64 (i - r)) (added c.before)
 
 also : (c : tie.After-pairs) → c.pairs.result ≡ C (mid_at 64 c.before.before.before.before.before.before.args.i) 2
 also c = c.pairs.ensures ∙ ap (λ (m : ℕ). C m 2) (middle c.before)
 
-sub-rest : tie.Need-overflow-sub-rest
+sub-rest : tie.Need-overflow_sub-rest
 unfolding index
 sub-rest c =
     let i = c.before.before.before.before.args.i in
     omega (arith, (triple_back 64 i (inside c.before.before)).3, added c)
 
-largest-requires-2 : tie.Need-largest-requires-2
+largest-requires-2 : tie.Need-largest-mid-requires
 largest-requires-2 c κs = search rules
 
 pairs-requires : tie.Need-pairs-requires
@@ -60,21 +60,21 @@ pairs-requires c κs =
     let t = triple_back 64 c.before.before.before.before.before.args.i (inside c.before.before.before) in
     omega (arith, t.1, t.2, middle c)
 
-sub-t7 : tie.Need-overflow-sub-t7
+sub-t7 : tie.Need-overflow_sub-result
 unfolding index
 sub-t7 c =
     let t = triple_back 64 c.before.before.before.before.before.before.args.i (inside c.before.before.before.before) in
     omega (arith, t.3, added c.before.before, also c)
 
-returns_2 : tie.Need-returns-2
+returns_2 : tie.Need-returns
 unfolding low_at
 returns_2 c =
     let i = c.before.before.before.before.before.before.args.i in
     sym (named_as i _ _ _ (inside c.before.before.before.before)
     (sym (ap₂ (λ (x y : ℕ). i - x - y) (added c.before.before) (also c))) (sym (middle c.before)) (sym (highest c.before.before.before)))
 
-pub triple-at-spec : {M : Type 1} → statement M
-triple-at-spec =
+pub triple_at_spec : {M : Type 1} → statement M
+triple_at_spec =
     tie.close
     (tie.spec
     count-requires

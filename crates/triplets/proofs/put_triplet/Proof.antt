@@ -17,67 +17,67 @@ use Rattle.triplets.proofs.put_triplet.Statement.{statement}
 use Rattle.triplets.proofs.put_triplet.Tie as tie
 
 -- a triplet where nothing was refused
-module _ (k : tie.After-r) where
+module _ (k : tie.In-Done) where
   abbrev u : Triplet
-  u = k.before.before.before.args.x
+  u = k.args.x
 
   abbrev e : Entry
-  e = k.r.given.0.0
+  e = k.in-Done.e
 
   good : (e.n ≤ 64) × Good e.n u.a u.b u.c
   good =
-      let p = k.before.before.before.pre.is e k.r.given.1 in
+      let p = k.requires.is e k.in-Done.is in
       (p.0, good_e e.n u.a u.b u.c (first_bad-none e.n (spelled u ∷ []) p.2 0 (omega arith)))
 
-enum_known_r : tie.Need-enum-known-r
+enum_known_r : tie.Need-enum_known-r
 enum_known_r c = search rules
 
-cast-a : tie.Need-overflow-cast-a
+cast-a : tie.Need-overflow_cast-a
 cast-a c = search rules
 
-cast-b : tie.Need-overflow-cast-b
+cast-b : tie.Need-overflow_cast-b
 cast-b c = search rules
 
-cast-c : tie.Need-overflow-cast-c
+cast-c : tie.Need-overflow_cast-c
 cast-c c = search rules
 
 put_requires : tie.Need-put-requires
 put_requires c κs =
-    let k = c.before.before.before.before.before in
+    let k = c.before.before.before.before in
     let g = good k in
-    (g.1.apart, omega arith, omega arith, omega arith, omega (arith, (k.before.before.before.requires.is (e k) k.r.given.1).1, good_place (e k).n (u k).a (u k).b (u k).c g.1))
+    (g.1.apart, omega arith, omega arith, omega arith, omega (arith, (k.requires.is (e k) k.in-Done.is).1, good_place (e k).n (u k).a (u k).b (u k).c g.1))
 
-gather-requires : tie.Need-gather-requires
+gather-requires : tie.Need-gather-set-requires
 gather-requires c κs =
-    let g = good c.before.before.before.before.before.before.before.before in
+    let g = good c.before.before.before.before.before.before.before in
     (omega (arith, g.0, g.1.first), omega (arith, g.0, g.1.second), omega (arith, g.0, g.1.third))
 
-enum_known_r_2 : tie.Need-enum-known-r-2
+enum_known_r_2 : tie.Need-enum_known-r-in-Refused-1
 enum_known_r_2 c = search rules
 
-same_length : tie.Need-same-length
+same_length : tie.Need-shape_of-table
 same_length c = search rules
 
-returns : tie.Need-returns
+returns : tie.Need-returns-in-Done
 unfolding filled fill
 returns c =
     let p = c.before.before.before in
-    let k = p.before.before.before.before.before.before in
-    let a = k.before.before.before.args in
-    let q = k.r.given.1 in (
-      gathered_one (e k) (spelled (u k)) c.gather.result c.gather.ensures ∙ sym (ap (λ (r : Answer). gathered r (spelled (u k) ∷ [])) q),
+    let k = p.before.before.before.before.before in
+    let a = k.args in
+    let q = k.in-Done.is in (
+      gathered_one (e k) (spelled (u k)) c.gather-set.result c.gather-set.ensures ∙ sym (ap (λ (r : Answer). gathered r (spelled (u k) ∷ [])) q),
       p.put.ensures.is ∙ sym (ap (λ (r : Answer). filled r (spelled (u k) ∷ []) a.table.now) q),
     )
 
-returns_2 : tie.Need-returns-2
+returns_2 : tie.Need-returns-in-Refused
 unfolding filled gathered
 returns_2 c =
-    let a = c.before.before.before.before.args in
-    let q = c.before.r2.given.1 in
+    let a = c.before.before.args in
+    let q = c.in-Refused.is in
     (sym (ap (λ (r : Answer). gathered r (spelled a.x ∷ [])) q), sym (ap (λ (r : Answer). filled r (spelled a.x ∷ []) a.table.now) q))
 
-pub put-triplet-spec : {M : Type 1} → statement M
-put-triplet-spec =
+pub put_triplet_spec : {M : Type 1} → statement M
+put_triplet_spec =
     tie.close
     (tie.spec
     enum_known_r

@@ -8,5 +8,5 @@ use Rattle.writing.proofs.put.Tie as tie
 pub put_spec : {M : Type 1} → statement M
 put_spec = tie.close (tie.spec
     (λ c. search rules) (λ c. search rules) (λ c. search rules)
-    (λ c. writes_byte c.before.args.out.now c.before.args.at c.before.args.b c.if1.true)
-    (λ c. writes_full c.before.args.out.now c.before.args.at (c.before.args.b ∷ []) c.if1.false))
+    (λ c. writes_byte c.before.args.out.now c.before.args.at c.before.args.b c.if-at-out.true)
+    (λ c. writes_full c.before.args.out.now c.before.args.at (c.before.args.b ∷ []) c.if-at-out.false))

@@ -10,26 +10,26 @@ use Rattle.writing.specs.Writes.{Writes}
 use Rattle.writing.proofs.put_sets.Statement.{statement}
 use Rattle.writing.proofs.put_sets.Tie as tie
 
-abbrev invariant-loop : tie.invariant-loop
+abbrev invariant-loop : tie.invariant-loop-i
 invariant-loop out₀ at l next₀ i₀ out next i = (i ≤ length l) × Writes out₀ at (spaced (take i l)) out next
 
-abbrev decreases-loop : tie.decreases-loop
+abbrev decreases-loop : tie.decreases-loop-i
 decreases-loop out₀ at l next₀ i₀ out next i = length l - i
 
-abbrev begun : tie.At-loop invariant-loop decreases-loop → tie.Start invariant-loop decreases-loop
+abbrev begun : tie.At-loop-i invariant-loop decreases-loop → tie.Start invariant-loop decreases-loop
 begun x = x.before.before.before
 
-loop_again : tie.Need-loop-preserved invariant-loop decreases-loop
+loop_again : tie.Need-loop-i-preserved invariant-loop decreases-loop
 loop_again c =
     let p = c.before.before in
     let n = p.before.before.before in
     let x = n.before in
-    (omega arith, spaced-front (begun x).args.l.now x.loop.i n.loop-test.true x.loop.invariant.1 p.put-spaced.ensures)
+    (omega arith, spaced-front (begun x).args.l.now x.loop-i.i n.loop-i-test.true x.loop-i.invariant.1 p.put_spaced-next.ensures)
 
-pub put-sets-spec : {M : Type 1} → statement M
-put-sets-spec = tie.close (tie.spec invariant-loop decreases-loop
+pub put_sets_spec : {M : Type 1} → statement M
+put_sets_spec = tie.close (tie.spec invariant-loop decreases-loop
     (λ c. (omega arith, writes_nothing _ _))
     (λ c. search rules) (λ c. search rules) (λ c κs. search rules) (λ c. search rules) (λ c. search rules)
     loop_again
-    (λ c. c.before.loop.invariant.1.kept)
-    (λ c. let x = c.before in spaced_all (begun x).args.l.now x.loop.i c.loop-test.false x.loop.invariant.1))
+    (λ c. c.before.loop-i.invariant.1.kept)
+    (λ c. let x = c.before in spaced_all (begun x).args.l.now x.loop-i.i c.loop-i-test.false x.loop-i.invariant.1))

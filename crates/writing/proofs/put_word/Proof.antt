@@ -9,29 +9,29 @@ use Rattle.writing.specs.Writes.{Writes}
 use Rattle.writing.proofs.put_word.Statement.{statement}
 use Rattle.writing.proofs.put_word.Tie as tie
 
-abbrev invariant-loop : tie.invariant-loop
+abbrev invariant-loop : tie.invariant-loop-i
 invariant-loop out₀ at w next₀ i₀ out next i = (i ≤ length w) × Writes out₀ at (take i w) out next
 
-abbrev decreases-loop : tie.decreases-loop
+abbrev decreases-loop : tie.decreases-loop-i
 decreases-loop out₀ at w next₀ i₀ out next i = length w - i
 
-abbrev begun : tie.At-loop invariant-loop decreases-loop → tie.Start invariant-loop decreases-loop
+abbrev begun : tie.At-loop-i invariant-loop decreases-loop → tie.Start invariant-loop decreases-loop
 begun x = x.before.before.before
 
-loop_again : tie.Need-loop-preserved invariant-loop decreases-loop
+loop_again : tie.Need-loop-i-preserved invariant-loop decreases-loop
 loop_again c =
     let p = c.before.before in
     let n = p.before.before.before in
     let x = n.before in
-    (omega arith, writes_as (front_more (begun x).args.w.now x.loop.i n.loop-test.true) (writes_both x.loop.invariant.1 p.put.ensures))
+    (omega arith, writes_as (front_more (begun x).args.w.now x.loop-i.i n.loop-i-test.true) (writes_both x.loop-i.invariant.1 p.put-next.ensures))
 
 returns : tie.Need-returns invariant-loop decreases-loop
-returns c = let x = c.before in writes_as (take_all x.loop.i (begun x).args.w.now c.loop-test.false) x.loop.invariant.1
+returns c = let x = c.before in writes_as (take_all x.loop-i.i (begun x).args.w.now c.loop-i-test.false) x.loop-i.invariant.1
 
-pub put-word-spec : {M : Type 1} → statement M
-put-word-spec = tie.close (tie.spec invariant-loop decreases-loop
+pub put_word_spec : {M : Type 1} → statement M
+put_word_spec = tie.close (tie.spec invariant-loop decreases-loop
     (λ c. (omega arith, writes_nothing _ _))
     (λ c. search rules) (λ c κs. search rules) (λ c. search rules) (λ c. search rules)
     loop_again
-    (λ c. c.before.loop.invariant.1.kept)
+    (λ c. c.before.loop-i.invariant.1.kept)
     returns)
