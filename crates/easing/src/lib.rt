@@ -1,4 +1,6 @@
 // The turns of loosening: while a group is not earned, the first such one in house order is dropped.
+#![tactic(auto)]
+
 ghost use Rattle.std.specs.Prelude.{◌≡◌, false, ◌<◌, ◌≤◌, length};
 ghost use Rattle.std.proofs.Math.Bool.{So};
 ghost use Rattle.sets.specs.Species.{Below};

@@ -1,4 +1,4 @@
-// The operations as C functions on numbers and slices: each returns document 01's number, and lays what is returned with it into `values`.
+// The operations as functions on numbers and slices, as C calls them: each returns document 01's number, and lays what is returned with it into `values`.
 ghost use Rattle.std.specs.Prelude.{◌≡◌, map, length};
 ghost use Rattle.collections.specs.Reads.{read_answer, read_told};
 ghost use Rattle.listing.specs.Lists.{list_answer, list_after};
@@ -17,16 +17,14 @@ ghost use Rattle.laying.specs.Codes.{laid, Handed};
 ghost use Rattle.exports.specs.Asked.{triple_answer, triple_species};
 
 // Reads a collection.
-#[unsafe(no_mangle)]
-pub extern "C" fn koodhaxil_read(b: &[u8], values: &mut [usize]) -> usize
+pub fn koodhaxil_read(b: &[u8], values: &mut [usize]) -> usize
     ensures { Handed (read_told (read_answer b.now)) values.old result values.new }
 {
     laying::lay(replies::read(collections::read(b)), values)
 }
 
 // Lists a collection into the table t. A refusal leaves every byte of t as it was.
-#[unsafe(no_mangle)]
-pub extern "C" fn koodhaxil_list(b: &[u8], t: &mut [u8], values: &mut [usize]) -> usize
+pub fn koodhaxil_list(b: &[u8], t: &mut [u8], values: &mut [usize]) -> usize
     ensures handed { Handed (read_told (list_answer b.now (length t.old))) values.old result values.new }
     ensures t_after { t.new ≡ list_after b.now t.old }
 {
@@ -35,8 +33,7 @@ pub extern "C" fn koodhaxil_list(b: &[u8], t: &mut [u8], values: &mut [usize]) -
 }
 
 // Enters triplets into the table t. A refusal leaves every byte of t as it was.
-#[unsafe(no_mangle)]
-pub extern "C" fn koodhaxil_enter(
+pub fn koodhaxil_enter(
     n: usize,
     records: &[triplets::Triplet],
     t: &mut [u8],
@@ -50,8 +47,7 @@ pub extern "C" fn koodhaxil_enter(
 }
 
 // Puts a tree in house order, to the front of the room. A refusal leaves every byte of the room as it was.
-#[unsafe(no_mangle)]
-pub extern "C" fn koodhaxil_order(
+pub fn koodhaxil_order(
     n: usize,
     body: &[u8],
     room: &mut [u8],
@@ -65,8 +61,7 @@ pub extern "C" fn koodhaxil_order(
 }
 
 // Builds the tree of a set of species, of the table t, to the front of the room. A refusal leaves every byte of the room as it was.
-#[unsafe(no_mangle)]
-pub extern "C" fn koodhaxil_build(
+pub fn koodhaxil_build(
     n: usize,
     set: u64,
     t: &[u8],
@@ -81,8 +76,7 @@ pub extern "C" fn koodhaxil_build(
 }
 
 // Makes the veto build of a set of species, of the table t, to the front of the room. A refusal leaves every byte of the room as it was.
-#[unsafe(no_mangle)]
-pub extern "C" fn koodhaxil_veto(
+pub fn koodhaxil_veto(
     n: usize,
     set: u64,
     t: &[u8],
@@ -97,16 +91,14 @@ pub extern "C" fn koodhaxil_veto(
 }
 
 // Checks the tree of a body against the table t.
-#[unsafe(no_mangle)]
-pub extern "C" fn koodhaxil_check(n: usize, t: &[u8], body: &[u8], values: &mut [usize]) -> usize
+pub fn koodhaxil_check(n: usize, t: &[u8], body: &[u8], values: &mut [usize]) -> usize
     ensures { Handed (check_told (check_answer n t.now body.now)) values.old result values.new }
 {
     laying::lay(replies::check(checking::check(n, t, body)), values)
 }
 
 // Reads a Newick text into a body, at the front of the room. A refusal leaves every byte of the room as it was.
-#[unsafe(no_mangle)]
-pub extern "C" fn koodhaxil_parse(
+pub fn koodhaxil_parse(
     n: usize,
     text: &[u8],
     room: &mut [u8],
@@ -120,8 +112,7 @@ pub extern "C" fn koodhaxil_parse(
 }
 
 // Writes a tree as Newick text to the front of the room. A refusal leaves every byte of the room as it was.
-#[unsafe(no_mangle)]
-pub extern "C" fn koodhaxil_render(
+pub fn koodhaxil_render(
     n: usize,
     body: &[u8],
     room: &mut [u8],
@@ -136,8 +127,7 @@ pub extern "C" fn koodhaxil_render(
 
 // Loosens the tree of a body by the table t: the final tree to the front of the room, and the dropped sets to the front of the list. A refusal leaves both as
 // they were.
-#[unsafe(no_mangle)]
-pub extern "C" fn koodhaxil_loosen(
+pub fn koodhaxil_loosen(
     n: usize,
     t: &[u8],
     body: &[u8],
@@ -154,8 +144,7 @@ pub extern "C" fn koodhaxil_loosen(
 
 // Is there a triple with this index? It is a question, so that its answer is none of document 01's numbers: 1 for yes, with the three species laid into
 // `values`, and 0 for no, which leaves `values` as it was.
-#[unsafe(no_mangle)]
-pub extern "C" fn koodhaxil_triple(index: usize, values: &mut [usize]) -> usize
+pub fn koodhaxil_triple(index: usize, values: &mut [usize]) -> usize
     ensures value { result ≡ triple_answer (named index) }
     ensures values_after { values.new ≡ laid (triple_species (named index)) values.old }
 {

@@ -1,4 +1,6 @@
 // Loosening a tree by a table: what is refused, and else what its turns come to.
+#![tactic(auto)]
+
 ghost use Rattle.std.specs.Prelude.{◌≡◌, false, ◌≤◌, length};
 ghost use Rattle.bodies.specs.Nodes.{Good, bad_length, nodes};
 ghost use Rattle.easing.specs.Eases.{lent};

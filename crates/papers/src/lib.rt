@@ -1,4 +1,6 @@
 // The input of `pull` into the papers' collection: its texts, read one after the other.
+#![tactic(auto)]
+
 ghost use Rattle.std.specs.Prelude.{◌≡◌, ◌+◌, ◌≤◌, length};
 ghost use Rattle.bodies.specs.Nodes.{longest};
 ghost use Rattle.collections.specs.Layout.{longest_collection};

@@ -1,4 +1,6 @@
 // The lines of the papers: each as it was read, and what each says of some species. Each function writes at `at`, and answers where the next byte goes.
+#![tactic(auto)]
+
 ghost use Rattle.std.specs.Prelude.{◌≡◌, ◌<◌};
 ghost use Rattle.answers.specs.Inputs.{Body};
 ghost use Rattle.collections.specs.Collection.{Collection};

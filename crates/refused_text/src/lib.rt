@@ -1,4 +1,6 @@
 // The line of a text that is refused: where in the input the text is wrong, what stands there, and what may stand there, in words.
+#![tactic(auto)]
+
 ghost use Rattle.std.specs.Prelude.{◌≡◌, ◌++◌, ◌-◌, ◌≤◌, length};
 ghost use Rattle.writing.specs.Texts.{decimal};
 ghost use Rattle.writing.specs.Writes.{Writes};

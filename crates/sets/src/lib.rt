@@ -1,4 +1,6 @@
 // Sets of species: bit i of a 64-bit number for species i.
+#![tactic(auto)]
+
 ghost use Rattle.std.specs.Prelude.{◌≡◌, ◌<◌, ◌≤◌, true, ◌↔◌};
 ghost use Rattle.sets.specs.Sets.{has, Subset, union, meet, minus, single, upto, size, Lowest, Rest};
 

@@ -1,4 +1,6 @@
 // What may stand at a place of a Newick text: the signs that are tried there, and the names of those that are not refused.
+#![tactic(auto)]
+
 ghost use Rattle.std.specs.Prelude.{◌≡◌, ◌++◌, ◌-◌, ◌<◌, ◌≤◌, length, get_or};
 ghost use Rattle.newick.specs.Texts.{longest_text};
 ghost use Rattle.writing.specs.Writes.{Writes};

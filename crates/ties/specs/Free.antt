@@ -12,16 +12,16 @@ use Rattle.loosening.specs.contracts.loosen as loosening-of
 use Rattle.parsing.specs.contracts.parse as parsing-of
 use Rattle.rendering.specs.contracts.render as rendering-of
 use Rattle.exports.specs.contracts.koodhaxil_read as c_read
-use Rattle.exports.specs.contracts.koodhaxil_list as c-list
+use Rattle.exports.specs.contracts.koodhaxil_list as c_list
 use Rattle.exports.specs.contracts.koodhaxil_enter as c_enter
-use Rattle.exports.specs.contracts.koodhaxil_order as c-order
-use Rattle.exports.specs.contracts.koodhaxil_build as c-build
-use Rattle.exports.specs.contracts.koodhaxil_veto as c-veto
-use Rattle.exports.specs.contracts.koodhaxil_check as c-check
-use Rattle.exports.specs.contracts.koodhaxil_loosen as c-loosen
-use Rattle.exports.specs.contracts.koodhaxil_parse as c-parse
-use Rattle.exports.specs.contracts.koodhaxil_render as c-render
-use Rattle.exports.specs.contracts.koodhaxil_triple as c-triple
+use Rattle.exports.specs.contracts.koodhaxil_order as c_order
+use Rattle.exports.specs.contracts.koodhaxil_build as c_build
+use Rattle.exports.specs.contracts.koodhaxil_veto as c_veto
+use Rattle.exports.specs.contracts.koodhaxil_check as c_check
+use Rattle.exports.specs.contracts.koodhaxil_loosen as c_loosen
+use Rattle.exports.specs.contracts.koodhaxil_parse as c_parse
+use Rattle.exports.specs.contracts.koodhaxil_render as c_render
+use Rattle.exports.specs.contracts.koodhaxil_triple as c_triple
 
 pub record Free : Type 2 where
   pub reading : AsksNothing reading-of.ended (λ M. reading-of.clauses)
@@ -36,13 +36,13 @@ pub record Free : Type 2 where
   pub parsing : AsksNothing parsing-of.ended (λ M. parsing-of.clauses)
   pub rendering : AsksNothing rendering-of.ended (λ M. rendering-of.clauses)
   pub c_read_free : AsksNothing c_read.ended (λ M. c_read.clauses)
-  pub c_list_free : AsksNothing c-list.ended (λ M. c-list.clauses)
+  pub c_list_free : AsksNothing c_list.ended (λ M. c_list.clauses)
   pub c_enter_free : AsksNothing c_enter.ended (λ M. c_enter.clauses)
-  pub c_order_free : AsksNothing c-order.ended (λ M. c-order.clauses)
-  pub c_build_free : AsksNothing c-build.ended (λ M. c-build.clauses)
-  pub c_veto_free : AsksNothing c-veto.ended (λ M. c-veto.clauses)
-  pub c_check_free : AsksNothing c-check.ended (λ M. c-check.clauses)
-  pub c_loosen_free : AsksNothing c-loosen.ended (λ M. c-loosen.clauses)
-  pub c_parse_free : AsksNothing c-parse.ended (λ M. c-parse.clauses)
-  pub c_render_free : AsksNothing c-render.ended (λ M. c-render.clauses)
-  pub c_triple_free : AsksNothing c-triple.ended (λ M. c-triple.clauses)
+  pub c_order_free : AsksNothing c_order.ended (λ M. c_order.clauses)
+  pub c_build_free : AsksNothing c_build.ended (λ M. c_build.clauses)
+  pub c_veto_free : AsksNothing c_veto.ended (λ M. c_veto.clauses)
+  pub c_check_free : AsksNothing c_check.ended (λ M. c_check.clauses)
+  pub c_loosen_free : AsksNothing c_loosen.ended (λ M. c_loosen.clauses)
+  pub c_parse_free : AsksNothing c_parse.ended (λ M. c_parse.clauses)
+  pub c_render_free : AsksNothing c_render.ended (λ M. c_render.clauses)
+  pub c_triple_free : AsksNothing c_triple.ended (λ M. c_triple.clauses)

@@ -16,16 +16,16 @@ use Rattle.tree_lines.specs.contracts.render_line as render-line
 use Rattle.tree_lines.specs.Lines.{lent_text}
 use Rattle.table_lines.specs.contracts.veto_line as veto-line
 use Rattle.reply_text.specs.Text.{barred, told_text}
-use Rattle.exports.specs.contracts.koodhaxil_build as c-build
-use Rattle.exports.specs.contracts.koodhaxil_check as c-check
+use Rattle.exports.specs.contracts.koodhaxil_build as c_build
+use Rattle.exports.specs.contracts.koodhaxil_check as c_check
 use Rattle.exports.specs.contracts.koodhaxil_enter as c_enter
-use Rattle.exports.specs.contracts.koodhaxil_list as c-list
-use Rattle.exports.specs.contracts.koodhaxil_loosen as c-loosen
-use Rattle.exports.specs.contracts.koodhaxil_order as c-order
-use Rattle.exports.specs.contracts.koodhaxil_parse as c-parse
+use Rattle.exports.specs.contracts.koodhaxil_list as c_list
+use Rattle.exports.specs.contracts.koodhaxil_loosen as c_loosen
+use Rattle.exports.specs.contracts.koodhaxil_order as c_order
+use Rattle.exports.specs.contracts.koodhaxil_parse as c_parse
 use Rattle.exports.specs.contracts.koodhaxil_read as c_read
-use Rattle.exports.specs.contracts.koodhaxil_render as c-render
-use Rattle.exports.specs.contracts.koodhaxil_veto as c-veto
+use Rattle.exports.specs.contracts.koodhaxil_render as c_render
+use Rattle.exports.specs.contracts.koodhaxil_veto as c_veto
 use Rattle.triplets.specs.Spelled.{spelled}
 use Rattle.laying.specs.Codes.{Handed}
 use Rattle.easing.specs.Eases.{lent}
@@ -38,24 +38,24 @@ pub record Hands {B : Type 0} (g : GivenOf B) (vs : List ℕ) (r : ℕ) (vs' : L
 
 pub record Linked (L : Operations) : Type 2 where
   pub reading : After c_read.ended (λ M. c_read.clauses) (λ κs a r s. Handed (L.read a.0.now) a.1.0.now r s.1.0.now)
-  pub listing : After c-list.ended (λ M. c-list.clauses)
+  pub listing : After c_list.ended (λ M. c_list.clauses)
       (λ κs a r s. Hands (L.list a.0.now a.1.0.now) a.1.1.0.now r s.1.1.0.now s.1.0.now)
   pub entering : After c_enter.ended (λ M. c_enter.clauses)
       (λ κs a r s. Hands (L.enter a.0 (map spelled a.1.0.now) a.1.1.0.now) a.1.1.1.0.now r s.1.1.1.0.now s.1.1.0.now)
-  pub ordering : After c-order.ended (λ M. c-order.clauses)
+  pub ordering : After c_order.ended (λ M. c_order.clauses)
       (λ κs a r s. Hands (L.order a.0 a.1.0.now a.1.1.0.now) a.1.1.1.0.now r s.1.1.1.0.now s.1.1.0.now)
-  pub building : After c-build.ended (λ M. c-build.clauses)
+  pub building : After c_build.ended (λ M. c_build.clauses)
       (λ κs a r s. Hands (L.build a.0 a.1.0 a.1.1.0.now a.1.1.1.0.now) a.1.1.1.1.0.now r s.1.1.1.1.0.now s.1.1.1.0.now)
-  pub vetoing : After c-veto.ended (λ M. c-veto.clauses)
+  pub vetoing : After c_veto.ended (λ M. c_veto.clauses)
       (λ κs a r s. Hands (L.veto a.0 a.1.0 a.1.1.0.now a.1.1.1.0.now) a.1.1.1.1.0.now r s.1.1.1.1.0.now s.1.1.1.0.now)
-  pub checking : After c-check.ended (λ M. c-check.clauses)
+  pub checking : After c_check.ended (λ M. c_check.clauses)
       (λ κs a r s. Handed (L.check a.0 a.1.0.now a.1.1.0.now) a.1.1.1.0.now r s.1.1.1.0.now)
-  pub loosening : After c-loosen.ended (λ M. c-loosen.clauses)
+  pub loosening : After c_loosen.ended (λ M. c_loosen.clauses)
       (λ κs a r s. Hands (L.loosen a.0 a.1.0.now a.1.1.0.now a.1.1.1.0.now a.1.1.1.1.0.now) a.1.1.1.1.1.0.now r s.1.1.1.1.1.0.now
       (lent s.1.1.1.0.now s.1.1.1.1.0.now))
-  pub parsing : After c-parse.ended (λ M. c-parse.clauses)
+  pub parsing : After c_parse.ended (λ M. c_parse.clauses)
       (λ κs a r s. Hands (L.parse a.0 a.1.0.now a.1.1.0.now) a.1.1.1.0.now r s.1.1.1.0.now s.1.1.0.now)
-  pub rendering : After c-render.ended (λ M. c-render.clauses)
+  pub rendering : After c_render.ended (λ M. c_render.clauses)
       (λ κs a r s. Hands (L.render a.0 a.1.0.now a.1.1.0.now) a.1.1.1.0.now r s.1.1.1.0.now s.1.1.0.now)
 
 -- a line was written at `at` into the text x, which is x' now, and the next byte goes to r: the answer, and what was lent, which is o now and has the text `text`

@@ -31,7 +31,7 @@ module _ (b : tie.After-old_number invariant-loop decreases-loop) where
   node : b.old_number.result < (nodes st.args.body.now).count
   node =
       let e = par.before.node_count-count.ensures in
-      let l = b.before.loop-i-test.taken in
+      let l = b.before.loop-i-test.true in
       omega (arith, b.old_number.ensures, old_within st.args.k at.loop-i.i ((nodes st.args.body.now).count - 1) (omega arith), e, l)
 
 node-count-requires : tie.Need-node_count-count-requires invariant-loop decreases-loop
@@ -69,7 +69,7 @@ new-parent-requires c κs = search rules
 put-under-requires-2 : tie.Need-put_under-requires-in-loop-i invariant-loop decreases-loop
 put-under-requires-2 c κs = search rules
 
-add-i : tie.Need-overflow_add-i invariant-loop decreases-loop
+add-i : tie.Need-overflow_add-i-in-loop-i invariant-loop decreases-loop
 add-i c = search rules
 
 loop_less : tie.Need-loop-i-smaller invariant-loop decreases-loop
@@ -84,9 +84,9 @@ loop_again c =
     let a = at b in
     let v = nodes s.args.body.now in
     let u : w.node_at-v.result ≡ node_at' v (old_number s.args.k a.loop-i.i) = w.node_at-v.ensures ∙ ap (node_at' v) b.old_number.ensures in (
-      left_more v s.args.k a.loop-i.out c.put_under-in-loop-i.new.room a.loop-i.i l.new_parent.result w.node_at-v.result a.loop-i.inv.0
-          (omega (arith, b.before.loop-i-test.true, s.requires.2, (par b).before.node-count.ensures))
-          (l.new_parent.ensures ∙ ap₂ (λ (x : ℕ) (y : Node). new_parent s.args.k x y.parent-above) (par b).parent.ensures u)
+      left_more v s.args.k a.loop-i.out c.put_under-in-loop-i.new.room a.loop-i.i l.new_parent.result w.node_at-v.result a.loop-i.invariant.0
+          (omega (arith, b.before.loop-i-test.true, s.requires.2, (par b).before.node_count-count.ensures))
+          (l.new_parent.ensures ∙ ap₂ (λ (x : ℕ) (y : Node). new_parent s.args.k x y.parent) (par b).parent-above.ensures u)
           u c.put_under-in-loop-i.ensures,
       omega (arith, b.before.loop-i-test.true),
     )

@@ -5,7 +5,7 @@ use mathlib.Core.Path.{◌∙◌, ◌≡◌, ap, sym}
 use Prim.Native.Nat.{ℕ}
 use native.Mathlib.Omega.{arith}
 use borrow.Author.Rules.{rules}
-use borrow.Author.Tests.{eqb-true, not-false}
+use borrow.Author.Tests.{eqb-true}
 use lib.Dec.{eqb}
 use lib.ListN.{length}
 use Rattle.tables.specs.Bytes.{wrong_length}
@@ -32,7 +32,7 @@ module _ (c : tie.After-read-read) where
   t = c.before.before.before.args.t.now
 
 -- where it refused nothing
-module _ (c : tie.In-Done-2) where
+module _ (c : tie.In-Done) where
   read_as : (c.in-Done.c ≡ counts_of (b c.before)) × Collection (b c.before)
   read_as = read_done (b c.before) c.in-Done.c (sym c.before.read-read.ensures ∙ c.in-Done.is)
 
@@ -64,13 +64,13 @@ same_length c = search rules
 returns : tie.Need-returns-then-not-fits
 returns c =
     let f = c.before in
-    is_refused BadTable (seven f.before true (sym (ap not f.fits2.ensures) ∙ c.if-not-fits.true))
+    is_refused BadTable (seven f.before true (ap not (sym f.fits.ensures ∙ c.if-not-fits.true)))
 
 fill-requires : tie.Need-fill-requires
 fill-requires c κs =
     let f = c.before.before in
     let x = f.before in
-    ((read_as x).1, count_as x, ap (λ (k : Counts). k.trees) (read_as x).0, eqb-true _ _ (sym f.fits2.ensures ∙ not-false f.fits2.result c.before.if-not-fits.false))
+    ((read_as x).1, count_as x, ap (λ (k : Counts). k.trees) (read_as x).0, eqb-true _ _ (sym f.fits.ensures ∙ c.if-not-fits.false))
 
 enum-known-read-2 : tie.Need-enum_known-read-in-Refused-1
 enum-known-read-2 c = search rules
@@ -80,11 +80,9 @@ same_length_2 c = search rules
 
 returns_2 : tie.Need-returns-else-not-fits
 returns_2 c =
-    let p = c.before.before in
-    let e = p.before.before in
-    let f = e.before in
+    let f = c.before.before.before.before.before in
     let x = f.before in
-    is_done (seven x false (sym (ap not f.fits2.ensures) ∙ e.if-not-fits.false)) (read_as x).0 p.fill.ensures
+    is_done (seven x false (ap not (sym f.fits.ensures ∙ c.if-not-fits.false))) (read_as x).0 c.fill.ensures
 
 returns_3 : tie.Need-returns-in-Refused
 returns_3 c =

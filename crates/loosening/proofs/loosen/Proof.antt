@@ -14,7 +14,7 @@ use Rattle.loosening.specs.Loosens.{late_looks}
 use Rattle.loosening.proofs.loosen.Statement.{statement}
 use Rattle.loosening.proofs.loosen.Tie as tie
 
-module _ (c : tie.After-look-candidate) where
+module _ (c : tie.After-look_candidate-look) where
   abbrev st : tie.Start
   st = c.before.before.before.before.before
 
@@ -33,45 +33,45 @@ module _ (c : tie.After-look-candidate) where
   abbrev late : List Look
   late = late_looks n t body (length st.args.room.now) (length st.args.list.now)
 
-passed : (c : tie.After-enum-told) → first_refusal (early c.before.before) ≡ Pass
-passed c = sym c.before.before.look-candidate.ensures ∙ c.enum_told.given.1
+passed : (c : tie.In-Pass) → first_refusal (early c.before) ≡ Pass
+passed c = sym c.before.look_candidate-look.ensures ∙ c.in-Pass.is
 
-look-candidate-requires : tie.Need-look-candidate-requires
+look-candidate-requires : tie.Need-look_candidate-look-requires
 look-candidate-requires c κs = search rules
 
-enum_told : tie.Need-enum-told
+enum_told : tie.Need-enum_told-1
 enum_told c = search rules
 
 settle-requires : tie.Need-settle-requires
 settle-requires c κs =
     let e = c.before.before in
-    let x = e.before.before in
+    let x = e.before in
     let g = candidate_pass (n x) (t x) (body x) (passed e) in
     (g.0.most, g.1.good, g.1.long)
 
-enum-known-look : tie.Need-enum-known-look
+enum-known-look : tie.Need-enum_known-look
 enum-known-look c = search rules
 
-same_length : tie.Need-same-length
+same_length : tie.Need-shape_of-room
 same_length c = search rules
 
-same_length_2 : tie.Need-same-length-2
+same_length_2 : tie.Need-shape_of-list
 same_length_2 c = search rules
 
-returns : tie.Need-returns
+returns : tie.Need-returns-in-Pass
 returns c =
     let s = c.before.before.before.before in
     let e = s.before.before.before in
-    is_rest (early e.before.before) (passed e) s.settle.ensures
+    is_rest (early e.before) (passed e) s.settle.ensures
 
-returns_2 : tie.Need-returns-2
+returns_2 : tie.Need-returns-in-Refuse
 returns_2 c =
-    let k = c.before in
-    let x = k.before.before in
-    is_refused _ (first_stop (early x) (late x) _ (sym x.look-candidate.ensures ∙ k.look.given.1))
+    let k = c in
+    let x = k.before in
+    is_refused _ (first_stop (early x) (late x) _ (sym x.look_candidate-look.ensures ∙ k.in-Refuse.is))
 
-pub loosen-spec : {M : Type 1} → statement M
-loosen-spec =
+pub loosen_spec : {M : Type 1} → statement M
+loosen_spec =
     tie.close
     (tie.spec
     look-candidate-requires

@@ -7,10 +7,10 @@ use Rattle.papers_text.proofs.put_number.Tie as tie
 returns : tie.Need-returns
 returns c =
     let d = c.before.before in
-    writes_both d.before.before.before.before.put_word.ensures d.put-decimal.ensures
+    writes_both d.before.before.before.before.put_word-a.ensures d.put_decimal.ensures
 
-pub put-number-spec : {M : Type 1} → statement M
-put-number-spec =
+pub put_number_spec : {M : Type 1} → statement M
+put_number_spec =
     tie.close
     (tie.spec
     (λ c. search rules)

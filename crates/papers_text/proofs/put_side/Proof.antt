@@ -10,7 +10,7 @@ use Rattle.papers_text.proofs.put_side.Statement.{statement}
 use Rattle.papers_text.proofs.put_side.Tie as tie
 
 -- once it stands there which paper it is
-abbrev number_put : tie.After-size → tie.After-put-number
+abbrev number_put : tie.After-size → tie.After-put_number-a
 number_put z = z.before.before.before.before
 
 abbrev st : tie.After-size → tie.Start
@@ -20,33 +20,33 @@ st z = (number_put z).before.before.before.before.before.before
 shared_is : (z : tie.After-size) → z.size.result ≡ shared (st z).args.set (st z).args.body.now
 shared_is z = counted (st z).args.body.now (st z).requires.1 _ _ _ _ (number_put z).before.before.groups2.ensures z.before.meet.ensures z.size.ensures
 
-enough : (e : tie.Else1) → 3 ≤ shared (st e.before).args.set (st e.before).args.body.now
-enough e = omega (arith, shared_is e.before, e.if1.false)
+enough : (e : tie.Else-size-lt3) → 3 ≤ shared (st e.before).args.set (st e.before).args.body.now
+enough e = omega (arith, shared_is e.before, e.if-size-lt3.false)
 
 groups-requires : tie.Need-groups-requires
 groups-requires c κs =
     let s = c.before.before.before in
     (s.requires.1.good, (few_nodes s.args.body.now s.requires.1, search rules))
 
-returns : tie.Need-returns
+returns : tie.Need-returns-then-size-lt3
 returns c =
     let w = c.before.before in
     let t = w.before.before.before in
     let z = t.before in
     let s = st z in
-    writes_as (silent_line s.args.body.now s.pre.1 s.args.set s.args.k (omega (arith, shared_is z, t.if1.true)))
+    writes_as (silent_line s.args.body.now s.requires.1 s.args.set s.args.k (omega (arith, shared_is z, t.if-size-lt3.true)))
     (writes_both (number_put z).put-number.ensures w.put_word.ensures)
 
-put-cut-requires : tie.Need-put-cut-requires
+put-cut-requires : tie.Need-put_cut-d-requires
 put-cut-requires c κs =
     let w = c.before.before.before in
     let e = w.before.before.before in
     let z = e.before in
     let s = st z in
     let b = s.args.body.now in
-    (s.pre.1.good, ((some_nodes b s.pre.1, few_nodes b s.pre.1), shares b s.pre.1 s.args.set (enough e)))
+    (s.requires.1.good, ((some_nodes b s.requires.1, few_nodes b s.requires.1), shares b s.requires.1 s.args.set (enough e)))
 
-returns_2 : tie.Need-returns-2
+returns_2 : tie.Need-returns
 returns_2 c =
     let q = c.before.before in
     let d = q.before.before.before.before in
@@ -55,11 +55,11 @@ returns_2 c =
     let z = e.before in
     let s = st z in
     let b = s.args.body.now in
-    let y = writes_both (writes_both w.put-word2.ensures d.put-cut.ensures) q.put.ensures in
-    writes_as (cut_line b s.pre.1 s.args.set (enough e) s.args.k) (writes_both (number_put z).put-number.ensures y)
+    let y = writes_both (writes_both w.put_word-b.ensures d.put_cut-d.ensures) q.put.ensures in
+    writes_as (cut_line b s.requires.1 s.args.set (enough e) s.args.k) (writes_both (number_put z).put-number.ensures y)
 
-pub put-side-spec : {M : Type 1} → statement M
-put-side-spec =
+pub put_side_spec : {M : Type 1} → statement M
+put_side_spec =
     tie.close
     (tie.spec
     groups-requires

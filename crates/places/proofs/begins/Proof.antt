@@ -1,28 +1,27 @@
 -- `places::begins` meets its contract. Assumes nothing.
 use Rattle.places.proofs.Bytes.{digit_begins, no_node_elsewhere, none_begins, opening_begins}
-use borrow.Author.Tests.{not-false, not-true}
 use mathlib.Core.Path.{◌∙◌, sym}
 use borrow.Author.Rules.{rules}
 use Rattle.places.proofs.begins.Statement.{statement}
 use Rattle.places.proofs.begins.Tie as tie
 
 returns : tie.Need-returns-then-not-fresh
-returns c = no_node_elsewhere c.before.args.b _ (not-true _ c.if-not-fresh.true)
+returns c = no_node_elsewhere c.before.args.b _ c.if-not-fresh.true
 
 returns_2 : tie.Need-returns-then-b-eq40
-returns_2 c = opening_begins c.before.before.args.b c.if-b-eq40.true _ (not-false _ c.before.if-not-fresh.false)
+returns_2 c = opening_begins c.before.before.args.b c.if-b-eq40.true _ c.if-not-fresh.false
 
 returns_3 : tie.Need-returns-then-digit
 returns_3 c =
     let d = c.before in
     let e = d.before.before in
-    digit_begins e.before.args.b (sym d.digit.ensures ∙ c.if-digit.true) _ (not-false _ e.if-not-fresh.false)
+    digit_begins e.before.args.b (sym d.digit.ensures ∙ c.if-digit.true) _ c.if-not-fresh.false
 
 returns_4 : tie.Need-returns
 returns_4 c =
     let d = c.before in
     let e = d.before.before in
-    none_begins e.before.args.b d.before.if-b-eq40.false (sym d.digit.ensures ∙ c.if-digit.false) _ (not-false _ e.if-not-fresh.false)
+    none_begins e.before.args.b d.before.if-b-eq40.false (sym d.digit.ensures ∙ c.if-digit.false) _ c.if-not-fresh.false
 
 pub begins_spec : {M : Type 1} → statement M
 begins_spec = tie.close (tie.spec

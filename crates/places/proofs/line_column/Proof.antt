@@ -26,8 +26,8 @@ loop_again c =
     let w = p.before.args.before.now in
     let h = c.before.before.loop-i-test.true in
     ⊎_elim
-    (λ x. (omega arith, omega (arith, x.1, l.invariant.1), omega (arith, x.2), rw (x.1, x.2) (sym (break_passed w l.i l.line l.column h x.0.taken) ∙ l.invariant.3)))
-    (λ x. (omega arith, omega (arith, x.1, l.invariant.1), omega (arith, x.2, l.invariant.2), rw (x.1, x.2) (sym (byte_passed w l.i l.line l.column h x.0.left) ∙ l.invariant.3)))
+    (λ x. (omega arith, omega (arith, x.line-is, l.invariant.1), omega (arith, x.column-is), rw (x.line-is, x.column-is) (sym (break_passed w l.i l.line l.column h x.if-before-i-eq10.true) ∙ l.invariant.3)))
+    (λ x. (omega arith, omega (arith, x.line-is, l.invariant.1), omega (arith, x.column-is, l.invariant.2), rw (x.line-is, x.column-is) (sym (byte_passed w l.i l.line l.column h x.if-before-i-eq10.false) ∙ l.invariant.3)))
     c.if-before-i-eq10.branch-raw
 
 returns : tie.Need-returns invariant-loop decreases-loop

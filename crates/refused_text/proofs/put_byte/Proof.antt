@@ -9,28 +9,28 @@ use Rattle.refused_text.proofs.put_byte.Statement.{statement}
 use Rattle.refused_text.proofs.put_byte.Tie as tie
 
 -- the byte is no blank
-not-blank : (e : tie.Else1) → blank e.before.before.before.args.b ≡ false
-not-blank e = sym e.before.blank.ensures ∙ e.if1.false
+not-blank : (e : tie.Else-blank) → blank e.before.before.before.args.b ≡ false
+not-blank e = sym e.before.blank.ensures ∙ e.if-blank.false
 
-returns : tie.Need-returns
-returns c = let w = c.before.before in let t = w.before.before.before in writes_as (byte_blank t.before.before.before.args.b (sym t.before.blank.ensures ∙ t.if1.true)) w.put_word.ensures
+returns : tie.Need-returns-then-blank
+returns c = let w = c.before.before in let t = w.before.before.before in writes_as (byte_blank t.before.before.before.args.b (sym t.before.blank.ensures ∙ t.if-blank.true)) w.put_word.ensures
 
-returns_2 : tie.Need-returns-2
+returns_2 : tie.Need-returns-then-visible
 returns_2 c =
     let w = c.before.before in
     let t = w.before.before.before in
     let v = t.before in
-    writes_as (byte_visible v.before.before.before.before.args.b (not-blank v.before) (sym v.visible.ensures ∙ t.if2.true)) w.put-word2.ensures
+    writes_as (byte_visible v.before.before.before.before.args.b (not-blank v.before) (sym v.visible.ensures ∙ t.if-visible.true)) w.put_word-then-visible.ensures
 
-returns_3 : tie.Need-returns-3
+returns_3 : tie.Need-returns
 returns_3 c =
     let w = c.before.before in
     let u = w.before.before.before in
     let v = u.before in
-    writes_as (byte_other v.before.before.before.before.args.b (not-blank v.before) (sym v.visible.ensures ∙ u.if2.false)) w.put-counted.ensures
+    writes_as (byte_other v.before.before.before.before.args.b (not-blank v.before) (sym v.visible.ensures ∙ u.if-visible.false)) w.put_counted.ensures
 
-pub put-byte-spec : {M : Type 1} → statement M
-put-byte-spec = tie.close (tie.spec
+pub put_byte_spec : {M : Type 1} → statement M
+put_byte_spec = tie.close (tie.spec
     (λ c κs. search rules) (λ c. search rules) (λ c κs. search rules) (λ c. search rules) returns
     (λ c κs. search rules) (λ c. search rules) (λ c κs. search rules) (λ c. search rules) returns_2
     (λ c. search rules) (λ c κs. search rules) (λ c. search rules) returns_3)

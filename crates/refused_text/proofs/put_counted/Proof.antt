@@ -5,7 +5,7 @@ use Rattle.refused_text.proofs.put_counted.Statement.{statement}
 use Rattle.refused_text.proofs.put_counted.Tie as tie
 
 returns : tie.Need-returns
-returns c = let z = c.before.before in writes_both z.before.before.before.before.put_word.ensures z.put-decimal.ensures
+returns c = let z = c.before.before in writes_both z.before.before.before.before.put_word-a.ensures z.put_decimal.ensures
 
-pub put-counted-spec : {M : Type 1} → statement M
-put-counted-spec = tie.close (tie.spec (λ c κs. search rules) (λ c κs. search rules) (λ c. search rules) returns)
+pub put_counted_spec : {M : Type 1} → statement M
+put_counted_spec = tie.close (tie.spec (λ c κs. search rules) (λ c κs. search rules) (λ c. search rules) returns)

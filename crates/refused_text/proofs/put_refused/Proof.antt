@@ -14,7 +14,7 @@ use Rattle.refused_text.proofs.put_refused.Statement.{statement}
 use Rattle.refused_text.proofs.put_refused.Tie as tie
 
 -- the place is found
-module _ (p : tie.After-place-in) where
+module _ (p : tie.After-place_in) where
   abbrev begun : tie.Start
   begun = p.before.before.before.before.before
 
@@ -22,25 +22,25 @@ module _ (p : tie.After-place-in) where
   text = text_in begun.args.input.now begun.args.start begun.args.end
 
   long : length text ≡ begun.args.end - begun.args.start
-  long = text_long begun.args.input.now begun.args.start begun.args.end begun.pre.0.0 begun.pre.0.1
+  long = text_long begun.args.input.now begun.args.start begun.args.end begun.requires.0.0 begun.requires.0.1
 
   -- it lies in the text, and so in the input
   inside : p.IsPlace-in.result ≤ begun.args.end - begun.args.start
-  inside = omega (arith, p.IsPlace-in.ensures, ap (place_in text) p.before.cause-of.ensures, begun.pre.1)
+  inside = omega (arith, p.IsPlace-in.ensures, ap (place_in text) p.before.cause_of-c.ensures, begun.requires.1)
 
   placed : begun.args.start + p.IsPlace-in.result ≤ length begun.args.input.now
-  placed = omega (arith, inside, begun.pre.0.0, begun.pre.0.1)
+  placed = omega (arith, inside, begun.requires.0.0, begun.requires.0.1)
 
-add_p : tie.Need-overflow-add-p
-add_p c = let s = begun c in omega (arith, inside c, s.pre.0.0, s.pre.0.1, s.pre.0.2)
+add_p : tie.Need-overflow_add-p
+add_p c = let s = begun c in omega (arith, inside c, s.requires.0.0, s.requires.0.1, s.requires.0.2)
 
-slice-aggregate-line-column : tie.Need-slice-aggregate-line-column
+slice-aggregate-line-column : tie.Need-slice_bounds-line_column-end
 slice-aggregate-line-column c = let p = c.before.before in sym (length-take-le _ _ (placed p))
 
-line-column-requires : tie.Need-line-column-requires
-line-column-requires c κs = let p = c.before.before in let s = begun p in omega (arith, length-take-le (s.args.start + p.IsPlace-in.result) s.args.input.now (placed p), inside p, s.pre.0.0, s.pre.0.2)
+line-column-requires : tie.Need-line_column-requires
+line-column-requires c κs = let p = c.before.before in let s = begun p in omega (arith, length-take-le (s.args.start + p.IsPlace-in.result) s.args.input.now (placed p), inside p, s.requires.0.0, s.requires.0.2)
 
-put-what-requires : tie.Need-put-what-requires
+put-what-requires : tie.Need-put_what-b-requires
 put-what-requires c κs = let p = c.before.before.before.before.before.before.before in omega (arith, inside p, p.IsPlace-in.ensures, long p)
 
 returns : tie.Need-returns
@@ -52,11 +52,11 @@ returns c =
     let p = x.before.before.before in
     let s = (begun p).args in
     writes_as
-    (line-told s.input.now s.paper s.start s.end s.why p.before.cause-of.result p.IsPlace-in.result x.line-column.result p.before.cause-of.ensures p.IsPlace-in.ensures x.line-column.ensures)
-    (writes_both a.put-where.ensures (writes_both b.put-what.ensures z.put.ensures))
+    (line-told s.input.now s.paper s.start s.end s.why p.before.cause_of-c.result p.IsPlace-in.result x.line_column.result p.before.cause_of-c.ensures p.IsPlace-in.ensures x.line_column.ensures)
+    (writes_both a.put_where-a.ensures (writes_both b.put_what-b.ensures z.put.ensures))
 
-pub put-refused-spec : {M : Type 1} → statement M
-put-refused-spec = tie.close (tie.spec
+pub put_refused_spec : {M : Type 1} → statement M
+put_refused_spec = tie.close (tie.spec
     (λ c. search rules) (λ c. search rules) (λ c. search rules) (λ c κs. search rules) (λ c κs. search rules) add_p
     slice-aggregate-line-column line-column-requires (λ c κs. search rules) put-what-requires (λ c κs. search rules) (λ c. search rules)
     returns)

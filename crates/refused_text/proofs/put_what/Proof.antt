@@ -8,28 +8,28 @@ use Rattle.refused_text.specs.Refused.{what_text}
 use Rattle.refused_text.proofs.put_what.Statement.{statement}
 use Rattle.refused_text.proofs.put_what.Tie as tie
 
-put-wrong-requires : tie.Need-put-wrong-requires
+put-wrong-requires : tie.Need-put_wrong-requires
 put-wrong-requires c κs =
-    let k = c.before.before in
-    let s = k.before.before.before.before in
-    omega (arith, s.requires, ap (place_in s.args.text.now) k.c.given.1)
+    let k = c.before in
+    let s = k.before.before.before in
+    omega (arith, s.requires, ap (place_in s.args.text.now) k.in-AtPlace.is)
 
-returns : tie.Need-returns
+returns : tie.Need-returns-in-AtPlace
 returns c =
     let w = c.before.before in
-    let k = w.before.before.before in
-    writes_as (ap (what_text k.before.before.before.before.args.text.now) (sym k.c.given.1)) w.put_wrong.ensures
+    let k = w.before.before in
+    writes_as (ap (what_text k.before.before.before.args.text.now) (sym k.in-AtPlace.is)) w.put_wrong.ensures
 
-returns_2 : tie.Need-returns-2
+returns_2 : tie.Need-returns-in-AtNode
 returns_2 c =
     let w = c.before.before in
-    let k = w.before.before.before in
-    writes_as (ap (what_text k.before.before.before.before.args.text.now) (sym k.c2.given.1)) w.put-broken.ensures
+    let k = w.before.before in
+    writes_as (ap (what_text k.before.before.before.args.text.now) (sym k.in-AtNode.is)) w.put_broken.ensures
 
-returns_3 : tie.Need-returns-3
-returns_3 c = writes_as (ap (what_text c.before.before.before.before.args.text.now) (sym c.enum_told.given.1)) (writes_nothing _ _)
+returns_3 : tie.Need-returns-in-Other
+returns_3 c = writes_as (ap (what_text c.before.before.before.args.text.now) (sym c.in-Other.is)) (writes_nothing _ _)
 
-pub put-what-spec : {M : Type 1} → statement M
-put-what-spec = tie.close (tie.spec
+pub put_what_spec : {M : Type 1} → statement M
+put_what_spec = tie.close (tie.spec
     (λ c. search rules) put-wrong-requires (λ c. search rules) (λ c κs. search rules) (λ c. search rules)
     (λ c. search rules) returns (λ c. search rules) returns_2 returns_3)

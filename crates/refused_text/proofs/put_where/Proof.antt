@@ -10,9 +10,9 @@ returns c =
     let d = z.before.before.before.before.before in
     let b = d.before.before.before.before.before in
     let a = b.before.before.before.before.before in
-    writes_both a.put-counted.ensures (writes_both b.put-counted2.ensures (writes_both d.put-counted3.ensures z.put_word.ensures))
+    writes_both a.put_counted-a.ensures (writes_both b.put_counted-b.ensures (writes_both d.put_counted-c.ensures z.put_word.ensures))
 
-pub put-where-spec : {M : Type 1} → statement M
-put-where-spec = tie.close (tie.spec
+pub put_where_spec : {M : Type 1} → statement M
+put_where_spec = tie.close (tie.spec
     (λ c. search rules) (λ c κs. search rules) (λ c. search rules) (λ c κs. search rules) (λ c. search rules) (λ c κs. search rules)
     (λ c. search rules) (λ c κs. search rules) (λ c. search rules) returns)

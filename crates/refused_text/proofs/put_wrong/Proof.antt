@@ -5,10 +5,10 @@ use Rattle.refused_text.proofs.Texts.{wrong_long, wrong_short}
 use Rattle.refused_text.proofs.put_wrong.Statement.{statement}
 use Rattle.refused_text.proofs.put_wrong.Tie as tie
 
-returns : tie.Need-returns
-returns c = let w = c.before.before in let t = w.before.before.before in let s = t.before.before.before.args in writes_as (wrong_long s.text.now s.q t.if1.true) w.put_word.ensures
+returns : tie.Need-returns-then-q-ge-LONGEST
+returns c = let w = c.before.before in let t = w.before.before.before in let s = t.before.before.before.args in writes_as (wrong_long s.text.now s.q t.if-q-ge-LONGEST.true) w.put_word.ensures
 
-returns_2 : tie.Need-returns-2
+returns_2 : tie.Need-returns
 returns_2 c =
     let z = c.before.before in
     let d = z.before.before.before.before in
@@ -16,10 +16,10 @@ returns_2 c =
     let a = b.before.before.before.before in
     let e = a.before.before.before in
     let s = e.before.before.before.args in
-    writes_as (wrong_short s.text.now s.q e.if1.false) (writes_both a.put-word2.ensures (writes_both b.put-found.ensures (writes_both d.put-word3.ensures z.put-expected.ensures)))
+    writes_as (wrong_short s.text.now s.q e.if-q-ge-LONGEST.false) (writes_both a.put_word-a.ensures (writes_both b.put_found-b.ensures (writes_both d.put_word-c.ensures z.put_expected.ensures)))
 
-pub put-wrong-spec : {M : Type 1} → statement M
-put-wrong-spec = tie.close (tie.spec
+pub put_wrong_spec : {M : Type 1} → statement M
+put_wrong_spec = tie.close (tie.spec
     (λ c. search rules) (λ c κs. search rules) (λ c. search rules) returns
     (λ c. search rules) (λ c κs. search rules) (λ c κs. search rules) (λ c. search rules) (λ c κs. search rules)
     (λ c κs. search rules) (λ c. search rules) returns_2)

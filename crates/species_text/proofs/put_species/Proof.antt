@@ -22,27 +22,27 @@ abbrev turn : tie.After-rest-left invariant-loop decreases-loop → tie.In-loop-
 turn c = c.before.before.before.before.before.before.before.before.before.before
 
 loop_less : tie.Need-loop-left-smaller invariant-loop decreases-loop
-loop_less c = omega (arith, c.rest-left.ensures.fewer (turn c).loop-test.true)
+loop_less c = omega (arith, c.rest-left.ensures.fewer (turn c).loop-left-test.true)
 
 loop_again : tie.Need-loop-left-preserved invariant-loop decreases-loop
 loop_again c =
     let l = c.before.before.before.before in
     let x = (turn c).before in
-    let v = x.loop-left.inv in
+    let v = x.loop-left.invariant in
     let y = writes_both l.before.before.before.before.put-begun.ensures c.before.before.before.put_decimal-next.ensures in
-    (omega arith, walk_next v.1 v.0 (turn c).loop-test.true _ l.lowest.ensures _ c.rest-left.ensures _ _ y)
+    (omega arith, walk_next v.1 v.0 (turn c).loop-left-test.true _ l.lowest.ensures _ c.rest-left.ensures _ _ y)
 
 same_length : tie.Need-shape_of-out invariant-loop decreases-loop
 same_length c =
     let x = c.before.before.before.before.before in
-    c.before.before.put.ensures.kept ∙ x.loop-left.invariant.1.wrote.kept ∙ (worded x).put_word.ensures.kept
+    c.before.before.put.ensures.kept ∙ x.loop-left.invariant.1.wrote.kept ∙ (worded x).put_word-next.ensures.kept
 
 returns : tie.Need-returns invariant-loop decreases-loop
 returns c =
     let q = c.before.before in
     let n = q.before.before in
     let x = n.before in
-    writes_both (writes_both (worded x).put_word.ensures (walk_end x.loop-left.invariant.1 n.loop-left-test.false)) q.put.ensures
+    writes_both (writes_both (worded x).put_word-next.ensures (walk_end x.loop-left.invariant.1 n.loop-left-test.false)) q.put.ensures
 
 pub put_species_spec : {M : Type 1} → statement M
 put_species_spec =

@@ -25,7 +25,7 @@ module _ (k : tie.In-Done) where
   text = k.in-Done.x
 
   abbrev room : List ℕ
-  room = rendered.render-answer.last.1.1.0
+  room = rendered.render-answer.new.room
 
   inside : text.length ≤ length room
   inside = text_inside st.requires.0 st.requires.1 (omega arith) rendered.render-answer.ensures text k.in-Done.is

@@ -5,15 +5,15 @@ use borrow.Author.Rules.{rules}
 use Rattle.standing.proofs.is_at.Statement.{statement}
 use Rattle.standing.proofs.is_at.Tie as tie
 
-returns : tie.Need-returns
-returns c = let b = c.before in ap (is_at b.before.before.args.q) (sym b.c.given.1)
+returns : tie.Need-returns-in-AtPlace
+returns c = let b = c in ap (is_at b.before.args.q) (sym b.in-AtPlace.is)
 
-returns_2 : tie.Need-returns-2
+returns_2 : tie.Need-returns-in-AtNode
 returns_2 c = search rules
 
-returns_3 : tie.Need-returns-3
+returns_3 : tie.Need-returns-in-Other
 returns_3 c = search rules
 
-pub is-at-spec : {M : Type 1} → statement M
-is-at-spec = tie.close (tie.spec
+pub is_at_spec : {M : Type 1} → statement M
+is_at_spec = tie.close (tie.spec
     (λ c. search rules) (λ c. search rules) (λ c. search rules) returns returns_2 returns_3)

@@ -7,11 +7,11 @@ use Rattle.standing.specs.Expected.{between}
 use Rattle.standing.proofs.left_out.Statement.{statement}
 use Rattle.standing.proofs.left_out.Tie as tie
 
-returns : tie.Need-returns
-returns c = ap (λ (x : Bool). 4 - length (between x)) (sym c.if1.true)
+returns : tie.Need-returns-then-some
+returns c = ap (λ (x : Bool). 4 - length (between x)) (sym c.if-some.true)
 
-returns_2 : tie.Need-returns-2
-returns_2 c = ap (λ (x : Bool). 4 - length (between x)) (sym c.if1.false)
+returns_2 : tie.Need-returns
+returns_2 c = ap (λ (x : Bool). 4 - length (between x)) (sym c.if-some.false)
 
-pub left-out-spec : {M : Type 1} → statement M
-left-out-spec = tie.close (tie.spec returns returns_2)
+pub left_out_spec : {M : Type 1} → statement M
+left_out_spec = tie.close (tie.spec returns returns_2)

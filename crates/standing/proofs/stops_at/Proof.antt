@@ -6,16 +6,16 @@ use borrow.Author.Rules.{rules}
 use Rattle.standing.proofs.stops_at.Statement.{statement}
 use Rattle.standing.proofs.stops_at.Tie as tie
 
-returns : tie.Need-returns
+returns : tie.Need-returns-in-Done
 returns c = search rules
 
-returns_2 : tie.Need-returns-2
+returns_2 : tie.Need-returns-in-Refused
 returns_2 c =
     let d = c.before in
-    let a = d.before.before in
-    let q = a.before.before.args.q in
-    c.is_at.ensures ∙ ap (is_at q) d.cause-of.ensures ∙ ap (stops_at q) (sym a.a.given.1)
+    let a = d.before in
+    let q = a.before.args.q in
+    c.is_at.ensures ∙ ap (is_at q) d.cause_of.ensures ∙ ap (stops_at q) (sym a.in-Refused.is)
 
-pub stops-at-spec : {M : Type 1} → statement M
-stops-at-spec = tie.close (tie.spec
+pub stops_at_spec : {M : Type 1} → statement M
+stops_at_spec = tie.close (tie.spec
     (λ c. search rules) (λ c. search rules) (λ c κs. search rules) (λ c κs. search rules) returns returns_2)

@@ -1,5 +1,5 @@
 -- `triplets::fill_triplets` meets its contract: each turn does one triplet of those that are left. Assumes nothing.
-use Rattle.std.proofs.Common.{List, length, ℕ, suc, ◌≡◌, ◌≤◌, ◌<◌, ◌+◌, ◌-◌, subst, arith}
+use Rattle.std.proofs.Common.{List, length, ℕ, suc, ◌≡◌, ◌<◌, ◌+◌, ◌-◌, subst, arith}
 use Rattle.entering.specs.declared.Answer.{Answer}
 use Rattle.triplets.specs.declared.Triplet.{Triplet}
 use Rattle.triplets.proofs.Spelling.{Half, half_first, half_last, half_next, half_ready}

@@ -1,5 +1,5 @@
 -- `triplets::first_bad_triplet` meets its contract: the turns of the search, one after the other, are the whole search. Assumes nothing.
-use Rattle.std.proofs.Common.{List, refl, sym, ap, ◌∙◌, ◌+◌, arith}
+use Rattle.std.proofs.Common.{refl, sym, ap, ◌∙◌, ◌+◌, arith}
 use lib.ListN.{drop}
 use Rattle.triplets.proofs.Spelling.{search_end, search_next, search_whole, searched}
 use Rattle.triplets.proofs.first_bad_triplet.Goals as goal

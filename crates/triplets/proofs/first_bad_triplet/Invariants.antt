@@ -1,5 +1,5 @@
 -- The search through the triplets from `i` on, which begins with what was found before, gives what the whole search gives.
-use Rattle.std.proofs.Common.{length, ◌-◌, ◌≡◌, ◌≤◌, ◌×◌}
+use Rattle.std.proofs.Common.{length, ◌-◌, ◌≡◌, ◌≤◌}
 use lib.ListN.{drop}
 use Rattle.triplets.proofs.Spelling.{searched}
 use Rattle.triplets.proofs.first_bad_triplet.Given as goal

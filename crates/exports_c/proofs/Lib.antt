@@ -1,0 +1,2 @@
+-- No function that C calls asks anything.
+pub mod Asks
