@@ -1,19 +1,14 @@
 -- What is told of a build, answer by answer. Assumes nothing.
-use mathlib.Core.List.{List, [], ◌∷◌, ◌++◌}
-use mathlib.Core.Path.{◌∙◌, ◌≡◌, ap, ap₂, refl, subst, sym}
+use mathlib.Core.List.{List, ◌++◌}
+use mathlib.Core.Path.{◌∙◌, ◌≡◌, ap, ap₂, subst, sym}
 use Prim.Native.Nat.{ℕ, ◌≤◌}
-use denote.Enum.Declared.{tag_of}
-use types.Run.{OneOf, miss}
 use lib.ListN.{replicate, take}
 use Rattle.bodies.specs.Nodes.{body_length, longest}
-use Rattle.refusals.proofs.Numbers.{number-not, places_but}
-use Rattle.refusals.specs.contracts.Refusal.{the_type as refusing}
 use Rattle.answers.specs.Inputs.{Body, Count}
 use Rattle.refusals.specs.Refusals.{refusal_told}
 use Rattle.refusals.specs.declared.Refusal.{Refusal}
 use Rattle.refusals.specs.declared.Refusal.TheVariants.{NoTree}
 use Rattle.answers.specs.declared.Written.{Written}
-use Rattle.building.specs.contracts.Answer.{the_type as building}
 use Rattle.building.proofs.Fits.{done_fits, veto-fits}
 use Rattle.building.proofs.Left.{BuiltBody, build-leaves, veto-leaves}
 use Rattle.building.specs.Builds.{build_after, build_answer}
@@ -28,16 +23,9 @@ use Rattle.built_text.specs.Words.{built_words, open_words, quarrel_words}
 
 -- ---- what the veto build gave back, r, and the room o that it left
 
-refused_open : (n : ℕ) (t o : List ℕ) (a : Building.Answer) → OneOf (1 ∷ []) (tag_of building a) → [] ≡ open_text n t o a
-refused_open n t o (Building.TheVariants.Done w) h = absurd (miss (1 ∷ []) 0 tt h)
-refused_open n t o (Building.TheVariants.Refused x) h = refl
-
 module _ (n s : ℕ) (t o : List ℕ) (r : Counted) (p : r ≡ veto_answer n s t longest) (q : o ≡ veto_after n s t (replicate longest 0)) where
   open_is : open_text n t o r.answer ≡ veto_text n s t
   open_is = ap₂ (λ (l : List ℕ) (x : Counted). open_text n t l x.answer) q p
-
-  pub open_refused : OneOf (1 ∷ []) (tag_of building r.answer) → [] ≡ veto_text n s t
-  open_refused h = refused_open n t o r.answer h ∙ open_is
 
   module _ (w : Written) (e : r.answer ≡ Building.TheVariants.Done w) where
     pub open_fits : body_length w.nodes ≤ longest
@@ -54,16 +42,9 @@ module _ (n s : ℕ) (t o : List ℕ) (r : Counted) (p : r ≡ veto_answer n s t
 
 -- ---- the refusal of the plain build, of the papers c
 
--- every refusal but that of a set that stops
-abbrev others : List ℕ
-others = places_but (10 ∷ [])
-
 module _ (c : List ℕ) (n s : ℕ) (t : List ℕ) where
   pub quarrel_told : (x : Refusal) (u k : ℕ) → x ≡ NoTree u → k ≡ trees c → species_line quarrel_words u ++ (sides_text u c k ++ veto_text n s t) ≡ quarrel_text c n s t (refusal_told x)
   quarrel_told x u k e h = ap (λ (j : ℕ). species_line quarrel_words u ++ (sides_text u c j ++ veto_text n s t)) h ∙ ap (λ (y : Refusal). quarrel_text c n s t (refusal_told y)) (sym e)
-
-  pub quarrel_none : (x : Refusal) → OneOf others (tag_of refusing x) → [] ≡ quarrel_text c n s t (refusal_told x)
-  quarrel_none x h = rw (number-not others x 10 tt h) refl
 
 -- ---- what the plain build gave back, r, and the room o that it left, of the papers c
 

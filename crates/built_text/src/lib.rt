@@ -1,4 +1,6 @@
 // What `pull` prints of a table that is built over a set of species: the tree, or over what the papers quarrel and the tree that leaves that open.
+#![tactic(auto)]
+
 ghost use Rattle.std.specs.Prelude.{◌≡◌};
 ghost use Rattle.answers.specs.Inputs.{Body, Count};
 ghost use Rattle.refusals.specs.Refusals.{refusal_told};

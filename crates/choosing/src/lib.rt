@@ -1,4 +1,6 @@
 // Which line a call gets, by its byte.
+#![tactic(auto)]
+
 ghost use Rattle.writing.specs.Writes.{Writes};
 ghost use Rattle.choosing.specs.Room.{Room};
 ghost use Rattle.choosing.specs.Chosen.{call_line};

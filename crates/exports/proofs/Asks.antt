@@ -13,35 +13,35 @@ use Rattle.exports.specs.contracts.koodhaxil_parse as c_parse
 use Rattle.exports.specs.contracts.koodhaxil_render as c_render
 use Rattle.exports.specs.contracts.koodhaxil_triple as c_triple
 
-pub c_read_asks_nothing : AsksNothing c_read.ended (λ M. c_read.clauses)
+pub c_read_asks_nothing : AsksNothing c_read.ended (λ M 𝓤. c_read.clauses)
 c_read_asks_nothing M 𝓤 𝓛 mem run κs a = (tt, λ g. id⊢ 𝓤 (emp 𝓤))
 
-pub c_list_asks_nothing : AsksNothing c_list.ended (λ M. c_list.clauses)
+pub c_list_asks_nothing : AsksNothing c_list.ended (λ M 𝓤. c_list.clauses)
 c_list_asks_nothing M 𝓤 𝓛 mem run κs a = (tt, λ g. id⊢ 𝓤 (emp 𝓤))
 
-pub c_enter_asks_nothing : AsksNothing c_enter.ended (λ M. c_enter.clauses)
+pub c_enter_asks_nothing : AsksNothing c_enter.ended (λ M 𝓤. c_enter.clauses)
 c_enter_asks_nothing M 𝓤 𝓛 mem run κs a = (tt, λ g. id⊢ 𝓤 (emp 𝓤))
 
-pub c_order_asks_nothing : AsksNothing c_order.ended (λ M. c_order.clauses)
+pub c_order_asks_nothing : AsksNothing c_order.ended (λ M 𝓤. c_order.clauses)
 c_order_asks_nothing M 𝓤 𝓛 mem run κs a = (tt, λ g. id⊢ 𝓤 (emp 𝓤))
 
-pub c_build_asks_nothing : AsksNothing c_build.ended (λ M. c_build.clauses)
+pub c_build_asks_nothing : AsksNothing c_build.ended (λ M 𝓤. c_build.clauses)
 c_build_asks_nothing M 𝓤 𝓛 mem run κs a = (tt, λ g. id⊢ 𝓤 (emp 𝓤))
 
-pub c_veto_asks_nothing : AsksNothing c_veto.ended (λ M. c_veto.clauses)
+pub c_veto_asks_nothing : AsksNothing c_veto.ended (λ M 𝓤. c_veto.clauses)
 c_veto_asks_nothing M 𝓤 𝓛 mem run κs a = (tt, λ g. id⊢ 𝓤 (emp 𝓤))
 
-pub c_check_asks_nothing : AsksNothing c_check.ended (λ M. c_check.clauses)
+pub c_check_asks_nothing : AsksNothing c_check.ended (λ M 𝓤. c_check.clauses)
 c_check_asks_nothing M 𝓤 𝓛 mem run κs a = (tt, λ g. id⊢ 𝓤 (emp 𝓤))
 
-pub c_loosen_asks_nothing : AsksNothing c_loosen.ended (λ M. c_loosen.clauses)
+pub c_loosen_asks_nothing : AsksNothing c_loosen.ended (λ M 𝓤. c_loosen.clauses)
 c_loosen_asks_nothing M 𝓤 𝓛 mem run κs a = (tt, λ g. id⊢ 𝓤 (emp 𝓤))
 
-pub c_parse_asks_nothing : AsksNothing c_parse.ended (λ M. c_parse.clauses)
+pub c_parse_asks_nothing : AsksNothing c_parse.ended (λ M 𝓤. c_parse.clauses)
 c_parse_asks_nothing M 𝓤 𝓛 mem run κs a = (tt, λ g. id⊢ 𝓤 (emp 𝓤))
 
-pub c_render_asks_nothing : AsksNothing c_render.ended (λ M. c_render.clauses)
+pub c_render_asks_nothing : AsksNothing c_render.ended (λ M 𝓤. c_render.clauses)
 c_render_asks_nothing M 𝓤 𝓛 mem run κs a = (tt, λ g. id⊢ 𝓤 (emp 𝓤))
 
-pub c_triple_asks_nothing : AsksNothing c_triple.ended (λ M. c_triple.clauses)
+pub c_triple_asks_nothing : AsksNothing c_triple.ended (λ M 𝓤. c_triple.clauses)
 c_triple_asks_nothing M 𝓤 𝓛 mem run κs a = (tt, λ g. id⊢ 𝓤 (emp 𝓤))

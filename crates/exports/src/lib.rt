@@ -1,4 +1,6 @@
 // The operations as functions on numbers and slices, as C calls them: each returns document 01's number, and lays what is returned with it into `values`.
+#![tactic(auto)]
+
 ghost use Rattle.std.specs.Prelude.{◌≡◌, map, length};
 ghost use Rattle.collections.specs.Reads.{read_answer, read_told};
 ghost use Rattle.listing.specs.Lists.{list_answer, list_after};
@@ -47,12 +49,7 @@ pub fn koodhaxil_enter(
 }
 
 // Puts a tree in house order, to the front of the room. A refusal leaves every byte of the room as it was.
-pub fn koodhaxil_order(
-    n: usize,
-    body: &[u8],
-    room: &mut [u8],
-    values: &mut [usize],
-) -> usize
+pub fn koodhaxil_order(n: usize, body: &[u8], room: &mut [u8], values: &mut [usize]) -> usize
     ensures handed { Handed (order_told (order_answer n body.now (length room.old))) values.old result values.new }
     ensures room_after { room.new ≡ order_after n body.now room.old }
 {
@@ -61,13 +58,7 @@ pub fn koodhaxil_order(
 }
 
 // Builds the tree of a set of species, of the table t, to the front of the room. A refusal leaves every byte of the room as it was.
-pub fn koodhaxil_build(
-    n: usize,
-    set: u64,
-    t: &[u8],
-    room: &mut [u8],
-    values: &mut [usize],
-) -> usize
+pub fn koodhaxil_build(n: usize, set: u64, t: &[u8], room: &mut [u8], values: &mut [usize]) -> usize
     ensures handed { Handed (build_told (build_answer n set t.now (length room.old))) values.old result values.new }
     ensures room_after { room.new ≡ build_after n set t.now room.old }
 {
@@ -76,13 +67,7 @@ pub fn koodhaxil_build(
 }
 
 // Makes the veto build of a set of species, of the table t, to the front of the room. A refusal leaves every byte of the room as it was.
-pub fn koodhaxil_veto(
-    n: usize,
-    set: u64,
-    t: &[u8],
-    room: &mut [u8],
-    values: &mut [usize],
-) -> usize
+pub fn koodhaxil_veto(n: usize, set: u64, t: &[u8], room: &mut [u8], values: &mut [usize]) -> usize
     ensures handed { Handed (build_told (veto_answer n set t.now (length room.old))) values.old result values.new }
     ensures room_after { room.new ≡ veto_after n set t.now room.old }
 {
@@ -98,12 +83,7 @@ pub fn koodhaxil_check(n: usize, t: &[u8], body: &[u8], values: &mut [usize]) ->
 }
 
 // Reads a Newick text into a body, at the front of the room. A refusal leaves every byte of the room as it was.
-pub fn koodhaxil_parse(
-    n: usize,
-    text: &[u8],
-    room: &mut [u8],
-    values: &mut [usize],
-) -> usize
+pub fn koodhaxil_parse(n: usize, text: &[u8], room: &mut [u8], values: &mut [usize]) -> usize
     ensures handed { Handed (parse_told (parse_answer n text.now (length room.old))) values.old result values.new }
     ensures room_after { room.new ≡ parse_after n text.now room.old }
 {
@@ -112,12 +92,7 @@ pub fn koodhaxil_parse(
 }
 
 // Writes a tree as Newick text to the front of the room. A refusal leaves every byte of the room as it was.
-pub fn koodhaxil_render(
-    n: usize,
-    body: &[u8],
-    room: &mut [u8],
-    values: &mut [usize],
-) -> usize
+pub fn koodhaxil_render(n: usize, body: &[u8], room: &mut [u8], values: &mut [usize]) -> usize
     ensures handed { Handed (render_told (render_answer n body.now (length room.old))) values.old result values.new }
     ensures room_after { room.new ≡ render_after n body.now room.old }
 {

@@ -1,4 +1,6 @@
 // What a laboratory links: the functions of `exports` under the names that a C program calls, each with the same contract.
+#![tactic(auto)]
+
 ghost use Rattle.std.specs.Prelude.{◌≡◌, map, length};
 ghost use Rattle.collections.specs.Reads.{read_answer, read_told};
 ghost use Rattle.listing.specs.Lists.{list_answer, list_after};

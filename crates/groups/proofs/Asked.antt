@@ -1,7 +1,7 @@
 -- What a tree says of three different species, from its species and the smallest common groups as numbers. Assumes nothing.
 use mathlib.Core.Path.{◌≡◌, refl, sym, ap, ap₂, ◌∙◌}
 use mathlib.Core.Logic.{◌≢◌}
-use mathlib.Core.Bool.{Bool, true, false, So, cond, not, ◌&&◌, ◌||◌, and_assoc, and_comm, not-not}
+use mathlib.Core.Bool.{Bool, true, false, So, cond, not, ◌&&◌, ◌||◌, and_assoc, and_comm}
 use mathlib.Core.List.{List}
 use Prim.Native.Nat.{ℕ, ◌<◌}
 use Rattle.sets.specs.Sets.{has}
@@ -20,9 +20,6 @@ three s a b c = has s a && (has s b && has s c)
 -- one test whether all three are in the tree serves the three triplets
 abbrev answer : Bool → Bool → Bool → Bool → Says
 answer p q r s = cond p (cond q AB (cond r AC (cond s BC Fan))) Absent
-
-pub of_not : {x y b : Bool} → not x ≡ b → x ≡ y → not b ≡ y
-of_not {x} e f = ap not (sym e) ∙ not-not x ∙ f
 
 choose : (p q r s : Bool)
     → cond (p && q) AB (cond (p && r) AC (cond (p && s) BC (cond (p && (true && not ((p && q) || ((p && r) || (p && s))))) Fan Absent))) ≡ answer p q r s

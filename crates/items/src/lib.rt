@@ -1,4 +1,6 @@
 // The items of a field, records or sets, laid out from its bytes; and the lines of the two calls that take them.
+#![tactic(auto)]
+
 ghost use Rattle.std.specs.Prelude.{◌≡◌, ◌+◌, ◌*◌, ◌<◌, ◌≤◌, ◌/◌, length, take};
 ghost use Rattle.table_lines.specs.Lines.{enter_line};
 ghost use Rattle.tree_lines.specs.Lines.{loosen_line};

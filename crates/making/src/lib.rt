@@ -1,4 +1,6 @@
 // A call that was read is made, and its line written behind the text that waits.
+#![tactic(auto)]
+
 ghost use Rattle.std.specs.Prelude.{◌≡◌, [], ◌∷◌, ◌⊎◌, ◌+◌, ◌≤◌, length};
 ghost use Rattle.writing.specs.Writes.{Writes};
 ghost use Rattle.calls.specs.Calls.{fields_of};

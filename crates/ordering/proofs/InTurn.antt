@@ -6,8 +6,8 @@ use mathlib.Core.Path.{◌∙◌, ◌≡◌, ap, ap₂, refl, sym}
 use Prim.Native.Nat.{◌*◌, ◌+◌, ◌<◌, ◌≤◌, suc, ℕ}
 use native.Mathlib.Omega.{arith}
 use lib.Dec.{eqb}
-use lib.ListN.{get_or, length}
-use lib.Seq.{length-sets, sets}
+use lib.ListN.{get_or}
+use lib.Seq.{sets}
 use Rattle.sets.specs.Sets.{Lowest, minus}
 use Rattle.trees.specs.Trees.{Forest, house, house_f}
 use Rattle.bodies.proofs.Housed.{house_count, house_f_count}
@@ -24,9 +24,6 @@ use Rattle.children.proofs.Left.{Left, Opened, alone, housed, left_end, left-nex
 abbrev pub with_kids : Nodes → ℕ → List ℕ → ℕ → List ℕ
 with_kids v i room at = sets room (width * suc at) (bytes_f (housed v (children v i)) at (suc at))
 
-pub with_kids_length : (v : Nodes) (i : ℕ) (room : List ℕ) (at : ℕ) → length (with_kids v i room at) ≡ length room
-with_kids_length v i room at = length-sets room (width * suc at) (bytes_f (housed v (children v i)) at (suc at))
-
 -- ---- what is still to be written, so that the room holds `whole` at the end
 
 pub record Todo (v : Nodes) (i at : ℕ) (whole : List ℕ) (end : ℕ) (room : List ℕ) (next rest : ℕ) : Type 0 where
@@ -34,10 +31,6 @@ pub record Todo (v : Nodes) (i at : ℕ) (whole : List ℕ) (end : ℕ) (room : 
   pub left : Left v i rest forest
   pub write : sets room (width * next) (bytes_f forest at next) ≡ whole
   pub ends : next + node_count_f forest ≡ end
-
--- the room keeps its length
-pub todo_length : {v : Nodes} {i at end : ℕ} {whole room : List ℕ} {next rest : ℕ} → Todo v i at whole end room next rest → length room ≡ length whole
-todo_length {at = at} {room = room} {next = next} t = sym (length-sets room (width * next) (bytes_f t.forest at next)) ∙ ap length t.write
 
 -- the next child is c, and what is to do once it was written
 pub record Next {v : Nodes} {i at end : ℕ} {whole room : List ℕ} {next rest : ℕ} (t : Todo v i at whole end room next rest) (c : ℕ) : Type 0 where

@@ -11,7 +11,7 @@ use Rattle.trees.specs.Cut.{Touches}
 use Rattle.bodies.proofs.Drawn.{tree_below}
 use Rattle.bodies.proofs.Good.{length_good}
 use Rattle.bodies.specs.Draws.{tree_of}
-use Rattle.bodies.specs.Nodes.{most_nodes, nodes}
+use Rattle.bodies.specs.Nodes.{nodes}
 use Rattle.groups.specs.Groups.{Groups, set_of}
 use Rattle.answers.specs.Inputs.{Body}
 use Rattle.writing.specs.Texts.{ended}
@@ -22,9 +22,6 @@ use Rattle.papers_text.specs.Words.{silent_words}
 module _ (b : List ℕ) (g : Body 64 b) where
   pub some_nodes : 0 < (nodes b).count
   some_nodes = (length_good b g.long).0
-
-  pub few_nodes : (nodes b).count ≤ most_nodes
-  few_nodes = (length_good b g.long).1
 
   -- as the code counts them, from the group of node 0
   pub counted : (l : List ℕ) (u m r : ℕ) → Groups (nodes b) l → m ≡ meet (get_or l 0 0) u → r ≡ size m → r ≡ shared u b

@@ -7,7 +7,6 @@ use native.Mathlib.Omega.{arith}
 use borrow.Author.Tests.{ltb-false}
 use lib.Dec.{ltb}
 use lib.ListN.{length, take}
-use Rattle.parsing.specs.declared.Answer.TheVariants as parsed
 use Rattle.bodies.specs.Nodes.{longest}
 use Rattle.collections.specs.Layout.{longest_collection}
 use Rattle.papers.proofs.Theorems.{papers-bad, papers_good}

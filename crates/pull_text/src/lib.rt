@@ -1,4 +1,6 @@
 // What `pull` prints, as text.
+#![tactic(auto)]
+
 ghost use Rattle.std.specs.Prelude.{◌≡◌, ◌≤◌, length, take};
 ghost use Rattle.collections.specs.Collection.{Collection};
 ghost use Rattle.collections.specs.Layout.{longest_collection, species, trees};

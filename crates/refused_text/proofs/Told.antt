@@ -1,10 +1,7 @@
 -- The parts of the line, as the code finds them. Assumes nothing.
 use mathlib.Core.List.{List, [], ◌∷◌, ◌++◌}
 use mathlib.Core.Path.{◌≡◌, refl}
-use Prim.Native.Nat.{ℕ, ◌+◌, ◌-◌, ◌≤◌}
-use native.Mathlib.Omega.{arith}
-use lib.ListN.{drop, length, length-drop}
-use lib.Seq.{length-take-le}
+use Prim.Native.Nat.{ℕ, ◌+◌}
 use Rattle.refusals.specs.declared.Refusal.{Refusal}
 use Rattle.places.specs.Causes.{cause_of}
 use Rattle.places.specs.NodePlaces.{place_in}
@@ -16,7 +13,3 @@ pub line-told : (w : List ℕ) (k start end : ℕ) (why : Refusal) (c : Cause) (
     → where_text k x ++ (what_text (text_in w start end) c ++ (10 ∷ [])) ≡ refused_line w k start end why
 unfolding refused_line
 line-told w k start end why c p x e f g = rw (g, f, e) refl
-
--- a text is as long as it is from its start to its end
-pub text_long : (w : List ℕ) (start end : ℕ) → start ≤ end → end ≤ length w → length (text_in w start end) ≡ end - start
-text_long w start end h k = length-take-le (end - start) (drop start w) (omega (arith, length-drop start w))

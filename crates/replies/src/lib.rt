@@ -1,4 +1,6 @@
 // Each operation's answer as a reply.
+#![tactic(auto)]
+
 ghost use Rattle.collections.specs.Reads.{read_told};
 ghost use Rattle.entering.specs.Enters.{enter_told};
 ghost use Rattle.ordering.specs.Orders.{order_told};

@@ -1,5 +1,5 @@
 -- What loosening left in the room and the list, answer by answer. Assumes nothing.
-use mathlib.Core.List.{List, []}
+use mathlib.Core.List.{List}
 use mathlib.Core.Path.{◌∙◌, ◌≡◌, ap, ap₂, refl, subst, sym}
 use Prim.Native.Nat.{ℕ, ◌≤◌}
 use native.Mathlib.Omega.{arith}
@@ -12,7 +12,6 @@ use Rattle.answers.specs.Inputs.{Body, Count}
 use Rattle.answers.specs.Looks.{after, answered, first_refusal}
 use Rattle.answers.specs.declared.Look.{Look}
 use Rattle.answers.specs.declared.Look.TheVariants.{Pass, Refuse}
-use Rattle.refusals.specs.declared.Refusal.{Refusal}
 use Rattle.easing.specs.Eases.{Lent, eased, laid_out, lent, numbers, tally}
 use Rattle.loosening.specs.Loosens.{loosen_answer, loosen_looks}
 use Rattle.loosening.specs.declared.Answer.{Answer}
@@ -39,9 +38,6 @@ done_passes (Refuse x) v w e = let z : ◌≡◌ {A = ℕ} 0 1 = cc in absurd (o
 module _ (n : ℕ) (t b : List ℕ) (a : Answer) (p : a ≡ loosen_answer n t b longest 62) (o : Lent) (q : o ≡ left_in' n t b) where
   sent_is : left_text o a ≡ sent_text n t b
   sent_is = ap₂ left_text q p
-
-  pub refused_told : (x : Refusal) → a ≡ Refused x → [] ≡ sent_text n t b
-  refused_told x e = ap (left_text o) (sym e) ∙ sent_is
 
   module _ (w : Tally) (e : a ≡ Done w) where
     pub done_told : (k : ℕ) → k ≡ body_length w.nodes → lines_text (take k o.room) (dropped_sets o w) ≡ sent_text n t b

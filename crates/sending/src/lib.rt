@@ -1,4 +1,6 @@
 // What `pull` prints of a built tree: its check, the tree that may be sent, what was dropped, and the groups to pull by.
+#![tactic(auto)]
+
 ghost use Rattle.answers.specs.Inputs.{Body, Count};
 ghost use Rattle.writing.specs.Writes.{Writes};
 ghost use Rattle.sending.specs.Words.{dropped_word};

@@ -1,4 +1,6 @@
 // What the program `shelf` does: it reads standard input, and prints what `shelf_text` writes of it.
+#![tactic(auto)]
+
 ghost use Rattle.std.specs.Prelude.{◌≡◌, length};
 ghost use Rattle.shelf_run.specs.Runs.{ShownText};
 

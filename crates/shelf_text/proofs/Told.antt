@@ -1,6 +1,6 @@
 -- What is told of a build and of a collection, answer by answer. Assumes nothing.
-use mathlib.Core.List.{List, [], ◌∷◌, ◌++◌, append-nil}
-use mathlib.Core.Logic.{◌≢◌, ◌⊎◌, inl, inr}
+use mathlib.Core.List.{List, [], ◌∷◌, ◌++◌}
+use mathlib.Core.Logic.{◌≢◌}
 use mathlib.Core.Path.{◌∙◌, ◌≡◌, ap, refl, sym}
 use Prim.Native.Nat.{ℕ, zero, suc, ◌-◌, ◌<◌, ◌≤◌}
 use native.Mathlib.Omega.{arith}
@@ -22,7 +22,6 @@ use Rattle.collections.specs.Reads.{read_answer, read_looks}
 use Rattle.collections.specs.declared.Answer as Reading
 use Rattle.collections.specs.declared.Counts.{Counts}
 use Rattle.listing.specs.Lists.{list_after, list_of}
-use Rattle.building.specs.contracts.Answer.{the_type as building}
 use Rattle.building.proofs.Fits.{done_fits}
 use Rattle.building.specs.Builds.{answer_told, build_after, build_answer}
 use Rattle.building.specs.declared.Answer as Building
@@ -70,19 +69,7 @@ unread_one k v c h e = rw (ne_eqb k 4 h, get_or-take c v 0 0 (omega arith), ← 
 pub unread_both : (k : ℕ) (v : List ℕ) (c : ℕ) → k ≢ 4 → c ≢ 0 → c ≢ 1 → k ∷ get_or v 0 0 ∷ get_or v 1 0 ∷ [] ≡ unread_numbers k (take c v)
 unread_both k v c h e f = rw (ne_eqb k 4 h, get_or-take c v 0 0 (omega arith), get_or-take c v 1 0 (omega arith)) refl
 
--- two numbers, or one where there is no value
-pub shown_is : (n : ℕ) (v : List ℕ) (c k : ℕ) → length v ≡ 4 → ((0 < c) × (k ≡ 2)) ⊎ ((c ≤ 0) × (k ≡ 1)) → take k (n ∷ get_or v 0 0 ∷ []) ≡ shown_numbers n (take c v)
-shown_is n [] c k e h = absurd (omega arith)
-shown_is n (x ∷ v) zero k e (inl h) = absurd (omega arith)
-shown_is n (x ∷ v) zero k e (inr h) = rw h.1 refl
-shown_is n (x ∷ v) (suc c) k e (inl h) = rw h.1 refl
-shown_is n (x ∷ v) (suc c) k e (inr h) = absurd (omega arith)
-
 -- ---- the build's answer a, its numbers x, and the room o that it left
-
-refused_build : (n : ℕ) (t o : List ℕ) (a : Building.Answer) → OneOf (1 ∷ []) (tag_of building a) → behind_text n t o a ≡ []
-refused_build n t o (Building.TheVariants.Done w) h = absurd (miss (1 ∷ []) 0 tt h)
-refused_build n t o (Building.TheVariants.Refused x) h = refl
 
 module _ (n s : ℕ) (t o x : List ℕ) (a : Building.Answer) (p : x ≡ build_numbers a) (q : a ≡ (build_answer n s t longest).answer) (h : o ≡ build_after n s t (replicate longest 0)) where
   built_told : line build_word x ++ behind_text n t o a ≡ table_text n s t
@@ -90,9 +77,6 @@ module _ (n s : ℕ) (t o x : List ℕ) (a : Building.Answer) (p : x ≡ build_n
 
   pub done_told : (w : Written) (k : ℕ) → a ≡ Building.TheVariants.Done w → k ≡ body_length w.nodes → line build_word x ++ body_text n t (take k o) ≡ table_text n s t
   done_told w k e h = rw h (ap (λ (z : Building.Answer). line build_word x ++ behind_text n t o z) (sym e) ∙ built_told)
-
-  pub refused_told : OneOf (1 ∷ []) (tag_of building a) → line build_word x ≡ table_text n s t
-  refused_told k = sym (append-nil (line build_word x)) ∙ ap (λ (z : List ℕ). line build_word x ++ z) (sym (refused_build n t o a k)) ∙ built_told
 
 -- ---- how long the text is
 

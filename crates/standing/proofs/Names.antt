@@ -5,7 +5,6 @@ use mathlib.Core.Path.{◌∙◌, ◌≡◌, ap, refl, sym}
 use Prim.Native.Nat.{ℕ, zero, suc, ◌+◌, ◌-◌, ◌<◌, ◌≤◌}
 use native.Mathlib.Numerals.{add-one}
 use native.Mathlib.Omega.{arith}
-use borrow.Author.Tests.{leb-true}
 use lib.Dec.{leb}
 use lib.ListN.{drop, get_or, length, take}
 use lib.Seq.{drop-cons}
@@ -47,9 +46,6 @@ lies (suc (suc (suc (suc (suc (suc (suc k))))))) h some = absurd (omega arith)
 
 -- x bytes of ` or ` are left out
 module _ (k : ℕ) (h : k < 7) (some : Bool) (x : ℕ) (e : x ≡ 4 - length (between some)) where
-  pub name_inside : (get_or ends k 0 + x ≤ get_or ends (k + 1) 0) × (get_or ends (k + 1) 0 ≤ 102)
-  name_inside = rw e (leb-true _ _ (lies k h some).0, leb-true _ _ (lies k h some).1)
-
   pub name_there : take (get_or ends (k + 1) 0 - (get_or ends k 0 + x)) (drop (get_or ends k 0 + x) lined) ≡ between some ++ sign_name (get_or signs k 0)
   name_there = rw e (lies k h some).2
 

@@ -21,7 +21,6 @@ use Rattle.numerals.specs.Goes.{Branched, Goes, Numbered, PastBlanks, Stops}
 use Rattle.subtrees.specs.Subtrees.{ListRead, SubtreeRead}
 use Rattle.numerals.specs.declared.Got.{Got}
 use Rattle.numerals.specs.declared.Got.TheVariants.{At, Bad}
-use Rattle.numerals.specs.declared.Numeral.{Numeral}
 use Rattle.numerals.specs.declared.Numeral.TheVariants.{None, Value}
 use Rattle.numerals.proofs.Lengths.{not-closing, not_comma, not_figure, not_opening, not_space, start_idle, start_off}
 use Rattle.numerals.proofs.Steps.{Off, goes_off, goes_on, goes_out}
@@ -195,9 +194,3 @@ module _ (w : List ℕ) (at parent depth count : ℕ) (o : List ℕ) (i n : ℕ)
 
 pub told-subtree : {w : List ℕ} {i parent depth count : ℕ} {o o' : List ℕ} {r r' : Got} → r ≡ r' → SubtreeRead w i parent depth count o o' r → SubtreeRead w i parent depth count o o' r'
 told-subtree {w} {i} {parent} {depth} {count} {o} {o'} e x = subst (SubtreeRead w i parent depth count o o') e x
-
-pub told_list : {w : List ℕ} {i parent depth count : ℕ} {o o' : List ℕ} {r r' : Got} → r ≡ r' → ListRead w i parent depth count o o' r → ListRead w i parent depth count o o' r'
-told_list {w} {i} {parent} {depth} {count} {o} {o'} e x = subst (ListRead w i parent depth count o o') e x
-
-pub told-number : (w : List ℕ) (i : ℕ) {r r' : Numeral} → r ≡ r' → Numbered w i r → Numbered w i r'
-told-number w i e x = subst (Numbered w i) e x

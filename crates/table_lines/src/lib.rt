@@ -1,4 +1,6 @@
 // The line of each call that reads a collection, fills a table or builds from one: the operation is called, and its reply is written, with what it left in the lent table or room.
+#![tactic(auto)]
+
 ghost use Rattle.std.specs.Prelude.{◌≡◌};
 ghost use Rattle.listing.specs.Lists.{list_after};
 ghost use Rattle.entering.specs.Enters.{enter_after};

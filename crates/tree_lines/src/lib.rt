@@ -1,4 +1,6 @@
 // The line of each call that takes a tree, as a body or as text: the operation is called, and its reply is written, with what it left in the lent room or list.
+#![tactic(auto)]
+
 ghost use Rattle.std.specs.Prelude.{◌≡◌};
 ghost use Rattle.ordering.specs.Orders.{order_after};
 ghost use Rattle.parsing.specs.Parses.{parse_after};

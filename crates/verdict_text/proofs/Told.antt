@@ -1,12 +1,9 @@
 -- The line of the check, answer by answer, and how long it is. Assumes nothing.
 use mathlib.Core.Bool.{Bool, cond, false, true}
 use mathlib.Core.List.{List, [], ◌∷◌, ◌++◌}
-use mathlib.Core.Path.{◌∙◌, ◌≡◌, ap, refl, sym}
+use mathlib.Core.Path.{◌∙◌, ◌≡◌, ap, sym}
 use Prim.Native.Nat.{ℕ, ◌≤◌}
 use native.Mathlib.Omega.{arith}
-use borrow.Author.Tests.{ne_eqb}
-use denote.Enum.Declared.{tag_of}
-use types.Run.{OneOf}
 use lib.Dec.{eqb}
 use lib.ListN.{length, length-append}
 use Rattle.trees.specs.Trees.{Tree}
@@ -18,15 +15,13 @@ use Rattle.bodies.specs.Draws.{tree_of}
 use Rattle.groups.specs.Groups.{says}
 use Rattle.groups.specs.declared.Says.{Says}
 use Rattle.groups.specs.declared.Says.TheVariants.{AB, AC, Absent, BC, Fan}
-use Rattle.refusals.proofs.Numbers.{number-not, number_some, places_but}
-use Rattle.refusals.specs.contracts.Refusal.{the_type as refusal}
+use Rattle.refusals.proofs.Numbers.{places_but}
 use Rattle.refusals.specs.Told.{Told}
-use Rattle.refusals.specs.Refusals.{refusal_told}
 use Rattle.refusals.specs.declared.Refusal.{Refusal}
 use Rattle.refusals.specs.declared.Refusal.TheVariants.{Unforced}
 use Rattle.checking.specs.Checks.{check_answer, check_told}
 use Rattle.checking.specs.declared.Answer.{Answer}
-use Rattle.checking.specs.declared.Answer.TheVariants.{Passes, Refused}
+use Rattle.checking.specs.declared.Answer.TheVariants.{Refused}
 use Rattle.writing.proofs.Digits.{decimal_few}
 use Rattle.writing.specs.Texts.{decimal, ended}
 use Rattle.verdict_text.specs.Verdict.{closer_text, index_in, said_text, told_text, triple_text, verdict_text}
@@ -38,17 +33,11 @@ use Rattle.verdict_text.specs.Words.{and_word, closer_words, own_words, unforced
 abbrev pub others : List ℕ
 others = places_but (12 ∷ [])
 
-nothing_told : (b : List ℕ) (x : Refusal) → OneOf others (tag_of refusal x) → [] ≡ told_text b (check_told (Refused x))
-nothing_told b x h = rw (ne_eqb (refusal_told x).number 0 (number_some x), number-not others x 12 tt h) refl
-
 -- ---- the answer a of the check
 
 module _ (n : ℕ) (t b : List ℕ) (a : Answer) (e : a ≡ check_answer n t b) where
   verdict_is : told_text b (check_told a) ≡ verdict_text n t b
   verdict_is = ap (λ (z : Answer). told_text b (check_told z)) e
-
-  pub passes_told : a ≡ Passes → ended own_words ≡ verdict_text n t b
-  passes_told p = ap (λ (z : Answer). told_text b (check_told z)) (sym p) ∙ verdict_is
 
   module _ (x : Refusal) (p : a ≡ Refused x) where
     refused_is : told_text b (check_told (Refused x)) ≡ verdict_text n t b
@@ -56,9 +45,6 @@ module _ (n : ℕ) (t b : List ℕ) (a : Answer) (e : a ≡ check_answer n t b) 
 
     pub unforced-told : (i : ℕ) → x ≡ Unforced i → triple_text (tree_of b) (named i) ≡ verdict_text n t b
     unforced-told i q = ap (λ (z : Refusal). told_text b (check_told (Refused z))) (sym q) ∙ refused_is
-
-    pub other_told : OneOf others (tag_of refusal x) → [] ≡ verdict_text n t b
-    other_told h = nothing_told b x h ∙ refused_is
 
 -- ---- how long it is
 

@@ -8,8 +8,8 @@ returns : tie.Need-returns
 returns c =
     let d = c.before.before in
     let a = d.before.before.before.before in
-    writes_both a.put-tree.ensures d.send.ensures
+    writes_both a.put_tree-a.ensures d.send.ensures
 
-pub put-tree-spec : {M : Type 1} → statement M
-put-tree-spec = tie.close (tie.spec
+pub put_tree_spec : {M : Type 1} → statement M
+put_tree_spec = tie.close (tie.spec
     (λ c κs. search rules) (λ c κs. search rules) (λ c. search rules) returns)

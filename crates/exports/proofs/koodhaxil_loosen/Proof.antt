@@ -10,9 +10,9 @@ returns c =
     let h = c.before.before in
     let s = h.before.before in
     let l = s.before.before.before.before.before in
-    (handed loosen_told _ s.loosen2.ensures l.loosen.ensures.is h.lay.ensures, l.loosen.ensures.holds)
+    (handed loosen_told _ s.loosen.ensures l.loosen-a.ensures.is h.lay.ensures, l.loosen-a.ensures.holds)
 
-pub koodhaxil-loosen-spec : {M : Type 1} → statement M
-koodhaxil-loosen-spec = tie.close (tie.spec
+pub koodhaxil_loosen_spec : {M : Type 1} → statement M
+koodhaxil_loosen_spec = tie.close (tie.spec
     (λ c κs. search rules) (λ c κs. search rules) (λ c κs. search rules) (λ c. search rules)
     (λ c. search rules) (λ c. search rules) returns)

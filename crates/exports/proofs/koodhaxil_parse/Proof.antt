@@ -10,9 +10,9 @@ returns c =
     let h = c.before.before in
     let s = h.before.before in
     let l = s.before.before.before in
-    (handed parse_told _ s.parse2.ensures l.parse.ensures.is h.lay.ensures, l.parse.ensures.holds)
+    (handed parse_told _ s.parse.ensures l.parse-a.ensures.is h.lay.ensures, l.parse-a.ensures.holds)
 
-pub koodhaxil-parse-spec : {M : Type 1} → statement M
-koodhaxil-parse-spec = tie.close (tie.spec
+pub koodhaxil_parse_spec : {M : Type 1} → statement M
+koodhaxil_parse_spec = tie.close (tie.spec
     (λ c κs. search rules) (λ c κs. search rules) (λ c κs. search rules) (λ c. search rules)
     (λ c. search rules) returns)

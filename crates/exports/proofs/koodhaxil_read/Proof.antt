@@ -9,8 +9,8 @@ returns : tie.Need-returns
 returns c =
     let h = c.before.before in
     let s = h.before.before in
-    handed read_told _ s.read2.ensures s.before.read.ensures h.lay.ensures
+    handed read_told _ s.read-2.ensures s.before.read.ensures h.lay.ensures
 
-pub koodhaxil-read-spec : {M : Type 1} → statement M
-koodhaxil-read-spec = tie.close (tie.spec
+pub koodhaxil_read_spec : {M : Type 1} → statement M
+koodhaxil_read_spec = tie.close (tie.spec
     (λ c κs. search rules) (λ c κs. search rules) (λ c κs. search rules) (λ c. search rules) returns)

@@ -10,9 +10,9 @@ returns c =
     let h = c.before.before in
     let s = h.before.before in
     let l = s.before.before.before in
-    (handed render_told _ s.render2.ensures l.render.ensures.is h.lay.ensures, l.render.ensures.holds)
+    (handed render_told _ s.render.ensures l.render-a.ensures.is h.lay.ensures, l.render-a.ensures.holds)
 
-pub koodhaxil-render-spec : {M : Type 1} → statement M
-koodhaxil-render-spec = tie.close (tie.spec
+pub koodhaxil_render_spec : {M : Type 1} → statement M
+koodhaxil_render_spec = tie.close (tie.spec
     (λ c κs. search rules) (λ c κs. search rules) (λ c κs. search rules) (λ c. search rules)
     (λ c. search rules) returns)

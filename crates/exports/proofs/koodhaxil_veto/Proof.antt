@@ -10,9 +10,9 @@ returns c =
     let h = c.before.before in
     let s = h.before.before in
     let l = s.before.before.before in
-    (handed build_told _ s.build.ensures l.veto.ensures.is h.lay.ensures, l.veto.ensures.holds)
+    (handed build_told _ s.build.ensures l.veto-a.ensures.is h.lay.ensures, l.veto-a.ensures.holds)
 
-pub koodhaxil-veto-spec : {M : Type 1} → statement M
-koodhaxil-veto-spec = tie.close (tie.spec
+pub koodhaxil_veto_spec : {M : Type 1} → statement M
+koodhaxil_veto_spec = tie.close (tie.spec
     (λ c κs. search rules) (λ c κs. search rules) (λ c κs. search rules) (λ c. search rules)
     (λ c. search rules) returns)

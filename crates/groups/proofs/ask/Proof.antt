@@ -2,7 +2,7 @@
 use mathlib.Core.Path.{◌≡◌, refl, sym, ◌∙◌}
 use mathlib.Core.Bool.{true, false}
 use borrow.Author.Rules.{rules}
-use Rattle.groups.proofs.Asked.{three, of_not, says_by}
+use Rattle.groups.proofs.Asked.{three, says_by}
 use Rattle.groups.proofs.ask.Statement.{statement}
 use Rattle.groups.proofs.ask.Tie as tie
 

@@ -24,13 +24,13 @@ returns : tie.Need-returns
 returns c =
     let l = c.before.before.before.before.before.before.before.before.before in
     let m = l.before.before.before.before.before.before.before.before in
-    let b = m.before.before.before.before.before.before.before.before in
+    let b = m.before.before.before.before.before.before.before in
     let s = b.args in
     let p = b.requires.0 in
     let e = ap (λ (xs : List (List ℕ)). made_line s.c xs) (parts_fields s.c s.first.now s.second.now s.third.now s.fourth.now) in
     let k = writes_as e l.line.ensures in
-    let h = made_fits s.c s.first.now s.second.now s.third.now s.fourth.now _ _ p.1 p.2 p.3 m.make-room.ensures.0 in
-    record { at = m.make-room.result; behind = m.make-room.ensures.1; text = writes_whole k h; inside = k.inside (omega (arith, m.make-room.ensures.0)) }
+    let h = made_fits s.c s.first.now s.second.now s.third.now s.fourth.now _ _ p.1 p.2 p.3 m.make_room-at.ensures.0 in
+    record { at = m.make_room-at.result; behind = m.make_room-at.ensures.1; text = writes_whole k h; inside = k.inside (omega (arith, m.make_room-at.ensures.0)) }
 
 pub make_spec : {M : Type 1} → statement M
 make_spec = tie.close (tie.spec

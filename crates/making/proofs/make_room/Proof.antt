@@ -5,7 +5,7 @@ use borrow.Author.Rules.{rules}
 use Rattle.making.proofs.make_room.Statement.{statement}
 use Rattle.making.proofs.make_room.Tie as tie
 
-pub make-room-spec : {M : Type 1} → statement M
-make-room-spec = tie.close (tie.spec
+pub make_room_spec : {M : Type 1} → statement M
+make_room_spec = tie.close (tie.spec
     (λ c. search rules) (λ c. (search rules, inl refl))
     (λ c. search rules) (λ c. search rules) (λ c. search rules) (λ c κs. search rules) (λ c. (search rules, inr refl)))

@@ -7,5 +7,5 @@ use Rattle.replies.proofs.build.Tie as tie
 returns : tie.Need-returns
 returns c = counted_replies c.before.before.args.a c.before.built.ensures c.further.ensures
 
-pub build-spec : {M : Type 1} → statement M
-build-spec = tie.close (tie.spec (λ c κs. search rules) (λ c κs. search rules) returns)
+pub build_spec : {M : Type 1} → statement M
+build_spec = tie.close (tie.spec (λ c κs. search rules) (λ c κs. search rules) returns)

@@ -6,11 +6,11 @@ use Rattle.refusals.proofs.Replying.{replies_as, replies_by}
 use Rattle.replies.proofs.order.Statement.{statement}
 use Rattle.replies.proofs.order.Tie as tie
 
-returns : tie.Need-returns
-returns c = replies_as order_told c.before.a.given.1 refl refl refl
+returns : tie.Need-returns-in-Done
+returns c = replies_as order_told c.in-Done.is refl refl refl
 
-returns_2 : tie.Need-returns-2
-returns_2 c = replies_by order_told c.before.before.a2.given.1 c.reply-of.ensures
+returns_2 : tie.Need-returns-in-Refused
+returns_2 c = replies_by order_told c.before.in-Refused.is c.reply_of.ensures
 
-pub order-spec : {M : Type 1} → statement M
-order-spec = tie.close (tie.spec (λ c. search rules) (λ c. search rules) (λ c κs. search rules) returns returns_2)
+pub order_spec : {M : Type 1} → statement M
+order_spec = tie.close (tie.spec (λ c. search rules) (λ c. search rules) (λ c κs. search rules) returns returns_2)

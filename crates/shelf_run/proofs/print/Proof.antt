@@ -5,14 +5,14 @@ use lib.Seq.{length-take-le}
 use Rattle.shelf_run.proofs.print.Statement.{statement}
 use Rattle.shelf_run.proofs.print.Tie as tie
 
-slice-aggregate-write-all : tie.Need-slice-aggregate-write-all
-slice-aggregate-write-all c = sym (length-take-le _ _ c.before.before.before.requires.inside)
+slice-aggregate-write-all : tie.Need-slice_bounds-write_all-end
+slice-aggregate-write-all c = sym (length-take-le _ _ c.before.before.requires.inside)
 
-write-all-requires : tie.Need-write-all-requires
+write-all-requires : tie.Need-write_all-requires
 write-all-requires c κs = search rules
 
 returns : tie.Need-returns
 returns c = search rules
 
-pub print-spec : {M : Type 1} → statement M
-print-spec = tie.close (tie.spec slice-aggregate-write-all write-all-requires returns)
+pub print_spec : {M : Type 1} → statement M
+print_spec = tie.close (tie.spec slice-aggregate-write-all write-all-requires returns)

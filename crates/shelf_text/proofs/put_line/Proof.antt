@@ -9,8 +9,8 @@ returns c =
     let d = c.before.before in
     let b = d.before.before.before.before in
     let a = b.before.before.before.before in
-    writes_both (writes_both a.put_word.ensures b.put-sets.ensures) d.put.ensures
+    writes_both (writes_both a.put_word-a.ensures b.put_sets-b.ensures) d.put.ensures
 
-pub put-line-spec : {M : Type 1} → statement M
-put-line-spec = tie.close (tie.spec
+pub put_line_spec : {M : Type 1} → statement M
+put_line_spec = tie.close (tie.spec
     (λ c κs. search rules) (λ c κs. search rules) (λ c κs. search rules) (λ c. search rules) returns)

@@ -12,7 +12,7 @@ unfolding read_line
 returns c =
     let z = c.before.before in
     let s = z.before in
-    writes_as (bare_line read_told s.read2.ensures s.before.read.ensures) z.put-line.ensures
+    writes_as (bare_line read_told s.read-2.ensures s.before.read.ensures) z.put_line.ensures
 
-pub read-line-spec : {M : Type 1} → statement M
-read-line-spec = tie.close (tie.spec (λ c κs. search rules) (λ c κs. search rules) (λ c κs. search rules) (λ c. search rules) returns)
+pub read_line_spec : {M : Type 1} → statement M
+read_line_spec = tie.close (tie.spec (λ c κs. search rules) (λ c κs. search rules) (λ c κs. search rules) (λ c. search rules) returns)

@@ -12,7 +12,7 @@ unfolding check_line
 returns c =
     let z = c.before.before in
     let s = z.before in
-    writes_as (bare_line check_told s.check2.ensures s.before.check.ensures) z.put-line.ensures
+    writes_as (bare_line check_told s.check-2.ensures s.before.check.ensures) z.put_line.ensures
 
-pub check-line-spec : {M : Type 1} → statement M
-check-line-spec = tie.close (tie.spec (λ c κs. search rules) (λ c κs. search rules) (λ c κs. search rules) (λ c. search rules) returns)
+pub check_line_spec : {M : Type 1} → statement M
+check_line_spec = tie.close (tie.spec (λ c κs. search rules) (λ c κs. search rules) (λ c κs. search rules) (λ c. search rules) returns)

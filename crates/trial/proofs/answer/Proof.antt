@@ -8,11 +8,11 @@ use Rattle.trial.proofs.answer.Statement.{statement}
 use Rattle.trial.proofs.answer.Tie as tie
 
 abbrev invariant-loop : tie.invariant-loop
-invariant-loop buffer₀ first₀ second₀ third₀ fourth₀ records₀ list₀ out₀ left₀ len₀ calls₀ buffer first second third fourth records list out left len calls =
+invariant-loop stdin buffer₀ first₀ second₀ third₀ fourth₀ records₀ list₀ out₀ left₀ len₀ calls₀ buffer first second third fourth records list out left len calls =
     InBuffer left buffer × (len ≤ length out) × (length buffer ≡ length buffer₀) × (length first ≡ length first₀) × (length second ≡ length second₀) × (length third ≡ length third₀) × (length fourth ≡ length fourth₀) × (length records ≡ length records₀) × (length list ≡ length list₀) × (length out ≡ length out₀)
 
 abbrev decreases-loop : tie.decreases-loop
-decreases-loop buffer₀ first₀ second₀ third₀ fourth₀ records₀ list₀ out₀ left₀ len₀ calls₀ buffer first second third fourth records list out left len calls =
+decreases-loop stdin buffer₀ first₀ second₀ third₀ fourth₀ records₀ list₀ out₀ left₀ len₀ calls₀ buffer first second third fourth records list out left len calls =
     calls
 
 pub answer-spec : {M : Type 1} → statement M

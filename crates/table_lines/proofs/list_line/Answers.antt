@@ -1,0 +1,12 @@
+-- The line of the answer and of what was lent. Assumes nothing.
+use Rattle.collections.specs.Reads.{read_told}
+use Rattle.writing.proofs.Writing.{writes_as}
+use Rattle.reply_text.proofs.Pieces.{barred-line}
+use Rattle.table_lines.specs.Lines.{list_line}
+use Rattle.table_lines.proofs.list_line.Goals as goal
+
+pub returns-clause-writes : goal.returns-clause-writes
+unfolding list_line
+returns-clause-writes c =
+    let a = c.list-a.ensures in
+    writes_as (barred-line read_told c.read.ensures a.is a.holds) c.put_barred.ensures

@@ -1,0 +1,12 @@
+-- The line of the answer and of what was lent. Assumes nothing.
+use Rattle.rendering.specs.Renders.{render_told}
+use Rattle.writing.proofs.Writing.{writes_as}
+use Rattle.reply_text.proofs.Pieces.{barred-line}
+use Rattle.tree_lines.specs.Lines.{render_line}
+use Rattle.tree_lines.proofs.render_line.Goals as goal
+
+pub returns-clause-writes : goal.returns-clause-writes
+unfolding render_line
+returns-clause-writes c =
+    let a = c.render-a.ensures in
+    writes_as (barred-line render_told c.render.ensures a.is a.holds) c.put_barred.ensures
