@@ -1,4 +1,6 @@
 // Reads papers on standard input, and prints what they let be pulled together: what `pull_text` writes of them.
+#![tactic(auto)]
+
 ghost use Rattle.pull.specs.Runs.{ShownText};
 
 // Prints the first `end` bytes of the text. Who calls this has to show what they are: what `pull` prints of the n bytes that came.

@@ -1,4 +1,6 @@
 // Reads calls of the operations on standard input, and prints the line of each.
+#![tactic(auto)]
+
 ghost use Rattle.std.specs.Prelude.{◌≡◌, ◌<◌, ◌≤◌, length};
 ghost use Rattle.input.specs.Inputs.{InBuffer};
 ghost use Rattle.choosing.specs.Room.{Room};

@@ -6,7 +6,7 @@ use Rattle.pull.proofs.main.Tie as tie
 
 print-requires : tie.Need-print-requires
 print-requires c κs =
-    let p = c.before.before.pull.ensures in
+    let p = c.before.before.pull-end.ensures in
     record { lent = search rules; came = search rules; inside = omega (arith, p.1, p.2); text = p.0 }
 
 returns : tie.Need-returns

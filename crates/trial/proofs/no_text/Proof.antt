@@ -7,5 +7,5 @@ use Rattle.trial.proofs.no_text.Tie as tie
 returns : tie.Need-returns
 returns c = length-replicate {A = ℕ} 3145728 0
 
-pub no-text-spec : {M : Type 1} → statement M
-no-text-spec = tie.close (tie.spec returns)
+pub no_text_spec : {M : Type 1} → statement M
+no_text_spec = tie.close (tie.spec returns)
