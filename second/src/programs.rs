@@ -47,7 +47,7 @@ pub struct Run {
     pub trouble: Option<String>,
 }
 
-/// The words before the program's own path (the loader of the kit, and its emulator).
+/// The words before the program's own path, as an emulator's; the gate has none.
 #[derive(Clone)]
 pub struct Programs {
     pub words: Vec<String>,

@@ -7,7 +7,7 @@ use native.Mathlib.Omega.{arith}
 use Rattle.sets.proofs.Bools.{or_l}
 use Rattle.sets.proofs.Members.{all_below}
 use Rattle.sets.specs.Species.{Inside, below}
-use Rattle.trees.proofs.Induced.{passes_paper, pc_paper}
+use Rattle.trees.proofs.Paper.{passes_paper, pc_paper}
 use Rattle.trees.proofs.Theorems.{pc_exactly}
 use Rattle.trees.specs.Check.{PC, differs}
 use Rattle.trees.specs.Induced.{PaperPC, PaperPI}

@@ -13,7 +13,7 @@ use Rattle.sets.proofs.Members.{all_below}
 use Rattle.sets.specs.Sets.{digit, number}
 use Rattle.sets.specs.Species.{Inside, below, members}
 use Rattle.trees.proofs.Formed.{all_in', leaves_in}
-use Rattle.trees.proofs.Induced.{pc_paper, pi_paper}
+use Rattle.trees.proofs.Paper.{pc_paper, pi_paper}
 use Rattle.trees.proofs.VetoRuns.{quarrel}
 use Rattle.trees.proofs.Words.{words_differ}
 use Rattle.trees.specs.Check.{PI}

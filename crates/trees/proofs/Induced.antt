@@ -1,20 +1,18 @@
--- A candidate passes PC of document 01 exactly when it passes PC as the paper says it; and then the same is so of PI. Where no tree holds R the two PI differ
--- (`Words`). Assumes nothing.
+-- What R induces, one triplet at a time, of a candidate that passes PC or PI: the parts of the theorems of `Paper`. Assumes nothing.
 use mathlib.Core.Bool.{So}
-use mathlib.Core.Logic.{◌↔◌, ◌≢◌, ⊎_elim}
+use mathlib.Core.Logic.{◌≢◌, ⊎_elim}
 use mathlib.Core.Path.{sym}
 use Prim.Native.Nat.{ℕ}
-use Rattle.sets.proofs.Bools.{and_r, not_e, or_case, or_l, or_r, test}
+use Rattle.sets.proofs.Bools.{not_e, or_case, or_l, or_r, test}
 use Rattle.sets.specs.Species.{Below, Inside, Species}
-use Rattle.trees.proofs.Agreement.{Agrees, R-in, R-proper, agrees_pc, two-not_held}
+use Rattle.trees.proofs.Agreement.{R-in, R-proper, two-not_held}
 use Rattle.trees.proofs.Criterion.{aho, forced_more, held_fewer, some_link}
-use Rattle.trees.proofs.Formed.{formed_e}
 use Rattle.trees.proofs.Splits.{holds_proper, holds_swap}
 use Rattle.trees.proofs.Triplets.{only_e, only_l, only_proper, only_r}
 use Rattle.trees.specs.Check.{PC, PI, R}
 use Rattle.trees.specs.Held.{CanBeHeld}
 use Rattle.trees.specs.Induced.{Among, Induces, PaperPC, PaperPI}
-use Rattle.trees.specs.Trees.{Tree, under, well_formed}
+use Rattle.trees.specs.Trees.{Tree, under}
 use Rattle.trees.specs.Triplets.{Proper, Triplets, both, holds, only}
 
 -- ---- one triplet
@@ -44,7 +42,7 @@ module _ (E : Triplets) (pr : Proper E) (T : Tree) (S : Species) where
       (λ x y z hx hy hz q. or_case (E' x y z) _ q (λ r. or_r (holds T x y z) _ (le x y z r)) (λ r. or_l (holds T x y z) _ (only_among (holds T) (holds_proper T) a b c h x y z r)))
       pc
 
-  to_pc : PC E S T → PaperPC E S T
+  pub to_pc : PC E S T → PaperPC E S T
   to_pc pc a b c h = (
     (λ n. n.forced.no_ac (with_own pc n.some n.among a b c h)),
     λ n. n.forced.no_ac (with_own pc n.some n.among b a c (holds_swap T a b c h)),
@@ -52,7 +50,7 @@ module _ (E : Triplets) (pr : Proper E) (T : Tree) (S : Species) where
 
   module _ (N : ℕ) (bd : Below N S) (sub : Inside (under T) S) where
     -- a triplet of R is a part of R, which induces it
-    itself : (a b c : ℕ) → So (R E T a b c) → Induces (R E T) S a b c
+    pub itself : (a b c : ℕ) → So (R E T a b c) → Induces (R E T) S a b c
     itself a b c h =
         let rp = R-proper E pr T in
         let (ia, ib, ic) = R-in E pr T a b c h in
@@ -71,15 +69,10 @@ module _ (E : Triplets) (pr : Proper E) (T : Tree) (S : Species) where
           };
         }
 
-    none_other : PaperPC E S T → Agrees E T
-    none_other pc a b c h = or_case (holds T a b c) _ (and_r (E a b c) _ h) (λ q. q) (λ q. absurd (or_case (holds T a c b) (holds T b c a) q
-        (λ r. (pc a c b r).0 (itself a b c h))
-        (λ r. (pc b c a r).0 (itself b a c ((R-proper E pr T).swap a b c h)))))
-
   -- ---- PI
 
   -- all of R is a part of it, which T's tree of PC holds
-  to_pi : PC E S T → PI E S T → PaperPI E S T
+  pub to_pi : PC E S T → PI E S T → PaperPI E S T
   to_pi pc pi a b c h = record {
     some = R E T;
     proper = R-proper E pr T;
@@ -89,20 +82,5 @@ module _ (E : Triplets) (pr : Proper E) (T : Tree) (S : Species) where
   }
 
   -- here PC is not asked: what a part forces, all of R forces
-  from_pi : PaperPI E S T → PI E S T
+  pub from_pi : PaperPI E S T → PI E S T
   from_pi pi a b c h = let n = pi a b c h in forced_more (R E T) n.some S n.among a b c n.forced
-
--- ---- the theorems, each to be read alone
-
-module _ (E : Triplets) (pr : Proper E) (N : ℕ) (S : Species) (bd : Below N S) (T : Tree) (f : So (well_formed T)) (sub : Inside (under T) S) where
-  -- PC is the paper's.
-  pub pc_paper : PC E S T ↔ PaperPC E S T
-  pc_paper = (to_pc E pr T S, λ pc. agrees_pc E pr T (formed_e T f) N S bd sub (none_other E pr T S N bd sub pc))
-
-  -- For a tree that passes PC, PI is the paper's.
-  pub pi_paper : PC E S T → PI E S T ↔ PaperPI E S T
-  pi_paper pc = (to_pi E pr T S pc, from_pi E pr T S)
-
-  -- Both hold exactly when both hold in the paper's words.
-  pub passes_paper : (PC E S T × PI E S T) ↔ (PaperPC E S T × PaperPI E S T)
-  passes_paper = ((λ h. (pc_paper.0 h.0, (pi_paper h.0).0 h.1)), λ h. let pc = pc_paper.1 h.0 in (pc, (pi_paper pc).1 h.1))

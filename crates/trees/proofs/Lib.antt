@@ -45,6 +45,7 @@ pub mod CutGroups
 pub mod CutRule
 pub mod CutRuns
 pub mod Induced
+pub mod Paper
 pub mod Words
 pub mod Combinations
 pub mod Visits

@@ -11,7 +11,8 @@ use Rattle.sets.specs.Species.{below, members}
 use Rattle.trees.proofs.Agreement.{two-not_held}
 use Rattle.trees.proofs.Criterion.{held_fewer}
 use Rattle.trees.proofs.Formed.{leaves_in}
-use Rattle.trees.proofs.Induced.{only_back, pc_paper}
+use Rattle.trees.proofs.Induced.{only_back}
+use Rattle.trees.proofs.Paper.{pc_paper}
 use Rattle.trees.proofs.Theorems.{build_decides}
 use Rattle.trees.proofs.Triplets.{both_proper, different_e, only_proper}
 use Rattle.trees.proofs.VetoRuns.{quarrel}
