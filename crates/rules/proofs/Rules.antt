@@ -54,6 +54,22 @@ pub seen_end : (v : Nodes) (s c j : ℕ) → c ≤ j → seen v s (c - j) j ≡ 
 unfolding seen
 seen_end v s c j h = rw (none c j h) refl
 
+-- the same from what is known of node j: it is a leaf with species s, it has another species, or it has children
+pub seen_here : (v : Nodes) (s c j : ℕ) → j < c → v.species j ≡ s → length (children v j) ≡ 0 → seen v s (c - j) j ≡ j
+seen_here v s c j h e z = seen_hit v s c j h (leaf_i v s j e z)
+
+pub seen_other : (v : Nodes) (s c j : ℕ) → j < c → (v.species j ≡ s → ⊥) → seen v s (c - j) j ≡ seen v s (c - (j + 1)) (j + 1)
+seen_other v s c j h e = seen_miss v s c j h (rw (ne_eqb _ _ e) refl)
+
+pub seen_inner : (v : Nodes) (s c j : ℕ) → j < c → (length (children v j) ≡ 0 → ⊥) → seen v s (c - j) j ≡ seen v s (c - (j + 1)) (j + 1)
+seen_inner v s c j h z = test (eqb (v.species j) s)
+    (λ e. seen_miss v s c j h (rw (e, ne_eqb _ _ z) refl))
+    (λ e. seen_other v s c j h (ne_e _ _ e))
+
+-- of a node with no children, the walk begins at node 0
+pub earlier_leaf : (v : Nodes) (s m i : ℕ) → m ≡ 0 → earlier v s m i ≡ seen v s (i - 0) 0
+earlier_leaf v s m i z = let q : i - 0 ≡ i = omega arith in rw (q, eq-eqb m 0 z) refl
+
 pub first_stop : (f : ℕ → Verdict) (c i : ℕ) (b : Broken) → i < c → f i ≡ Breaks b → first_break f (c - i) i ≡ Breaks b
 unfolding first_break
 first_stop f c i b h e = rw (left c i h, e) refl

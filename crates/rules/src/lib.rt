@@ -22,6 +22,7 @@ fn kids(body: &[u8], i: usize) -> usize
 }
 
 // The first leaf before node i with species s, where node i has no children (m is 0); i where there is none.
+#[tactic(auto, using(crate::proofs::Rules::seen_here))]
 fn earlier(body: &[u8], s: u8, m: usize, i: usize) -> usize
     requires { i < (nodes body.now).count }
     ensures { result ≡ earlier (nodes body.now) s m i }

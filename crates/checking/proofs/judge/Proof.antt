@@ -1,6 +1,6 @@
 -- `checking::judge` meets its contract: PC first; then each group beside its siblings; and the first triple only where one is not earned.
 -- Assumes nothing.
-use mathlib.Core.Bool.{So}
+use mathlib.Core.Bool.{So, true}
 use mathlib.Core.List.{List, [], ◌∷◌}
 use mathlib.Core.Path.{◌∙◌, ◌≡◌, ap, subst, sym}
 use Prim.Native.Nat.{ℕ}
@@ -22,7 +22,7 @@ use Rattle.answers.proofs.Answered.{first_stop, then_nothing}
 use Rattle.answers.specs.Looks.{answered}
 use Rattle.answers.specs.declared.Look.{Look}
 use Rattle.answers.specs.declared.Look.TheVariants.{Pass}
-use Rattle.checking.specs.Checks.{look_pc, look_pi}
+use Rattle.checking.specs.Checks.{answer_of, look_pc, look_pi, triples_looks}
 use Rattle.checking.specs.declared.Answer.{Answer}
 use Rattle.checking.specs.declared.Answer.TheVariants.{Passes, Refused}
 use Rattle.checking.proofs.Judged.{candidate, formed, good_64, is_earned, is_sure, is_unforced, nothing_differs, some_nodes, within}
@@ -107,12 +107,12 @@ earned-requires c κs =
       (x.before.draw-whole.ensures.0, some_nodes (n x) (body x) (st x).requires.0 (st x).requires.1 (st x).requires.2),
     )
 
-returns : tie.Need-returns-then-earned
-returns c =
-    let e = c.before in
+-- every group is earned
+passes : (e : tie.After-earned) → e.earned.result ≡ true → Passes ≡ answer_of (triples_looks e.args.n e.args.t.now (tree_of e.args.body.now))
+passes e h =
     let r = e.before.before.before in
     let x = p (q r) in
-    is_earned (n x) (t x) (T x) (well x) (low x) (none (q r)) ((e.earned.ensures (R (entered (t x)) (T x)) (rp r) (related r)).0 c.if-earned.true)
+    is_earned (n x) (t x) (T x) (well x) (low x) (none (q r)) ((e.earned.ensures (R (entered (t x)) (T x)) (rp r) (related r)).0 h)
 
 -- after the search for a triplet that is not forced
 module _ (u : tie.After-first_unforced-loose) where
@@ -178,7 +178,7 @@ judge_spec =
     enum_told
     relate-requires
     earned-requires
-    returns
+    (λ c. passes c.before (search rules))
     first-unforced-requires
     enum-known-loose
     index-requires
