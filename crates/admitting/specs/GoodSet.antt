@@ -6,7 +6,7 @@ use Rattle.triples.specs.Index.{C}
 use Rattle.outside.specs.Reaches.{reaches}
 use Rattle.bodies.specs.Nodes.{room_for}
 use Rattle.answers.specs.Looks.{look_bytes, look_count, look_room, look_table, refuse_if}
-use Rattle.answers.specs.declared.Look.{Look}
+use Rattle.answers.specs.Looks.{Look}
 use Rattle.refusals.specs.declared.Refusal.TheVariants.{BadSet, Outside}
 
 -- a set that is not empty, of species below n

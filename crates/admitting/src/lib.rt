@@ -5,6 +5,8 @@ ghost use Rattle.std.specs.Prelude.{◌≡◌, ◌≤◌};
 ghost use Rattle.answers.specs.Looks.{first_refusal};
 ghost use Rattle.admitting.specs.GoodSet.{bad_set, input_looks};
 
+use refusals::Refusal;
+
 // Is the set empty, or has it a species that is not below n?
 fn bad_set(n: usize, s: u64) -> bool
     requires { n ≤ 64 }
@@ -14,30 +16,18 @@ fn bad_set(n: usize, s: u64) -> bool
 }
 
 // Looks at all that is handed in, for a room of l bytes.
-pub fn look_input(n: usize, set: u64, t: &[u8], l: usize) -> answers::Look
+pub fn look_input(n: usize, set: u64, t: &[u8], l: usize) -> Result<(), Refusal>
     ensures { result ≡ first_refusal (input_looks n set t.now l) }
 {
-    let look = answers::look_table(n, t);
-    match look {
-        answers::Look::Pass => {}
-        answers::Look::Refuse(x) => {
-            return answers::Look::Refuse(x);
-        }
-    }
+    answers::look_table(n, t)?;
     if bad_set(n, set) {
-        return answers::Look::Refuse(refusals::Refusal::BadSet);
+        return Err(Refusal::BadSet);
     }
-    let found = outside::first_outside(n, t, set);
-    match found {
-        triples::Found::Nowhere => {}
-        triples::Found::At(x) => {
-            return answers::Look::Refuse(refusals::Refusal::Outside(triples::index(
-                x.low, x.mid, x.high,
-            )));
-        }
+    if let Some(x) = outside::first_outside(n, t, set) {
+        return Err(Refusal::Outside(triples::index(x.low, x.mid, x.high)));
     }
     if l < bodies::room(sets::size(set) as usize) {
-        return answers::Look::Refuse(refusals::Refusal::ShortRoom);
+        return Err(Refusal::ShortRoom);
     }
-    answers::Look::Pass
+    Ok(())
 }

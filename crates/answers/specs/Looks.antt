@@ -3,38 +3,41 @@ use Rattle.std.specs.Prelude.{Bool, cond, ◌||◌, List, [], ◌∷◌, ◌≡�
 use Rattle.tables.specs.Bytes.{over, wrong_byte, wrong_length}
 use Rattle.rules.specs.Faults.{fault}
 use Rattle.bodies.specs.Nodes.{bad_length, nodes}
-use Rattle.bodies.specs.declared.Verdict.{Verdict}
-use Rattle.bodies.specs.declared.Verdict.TheVariants.{Breaks, Fine}
-use Rattle.refusals.specs.Told.{Told, Value, told}
+use Rattle.refusals.specs.Told.{Told, Value, number_of_nodes, told, value}
 use Rattle.refusals.specs.Refusals.{refusal_told}
-use Rattle.answers.specs.declared.Look.{Look}
-use Rattle.answers.specs.declared.Look.TheVariants.{Pass, Refuse}
 use Rattle.refusals.specs.declared.Refusal.{Refusal}
+use Rattle.answers.specs.declared.Written.{Written}
 use Rattle.refusals.specs.declared.Refusal.TheVariants.{BadByte, BadCounts, BadLength, BadTable, BadTree, ShortRoom}
+use Rattle.std.specs.Prelude.{Ok, Err, Result}
+use Rattle.bodies.specs.declared.Broken.{Broken}
+
+-- what a look at what is handed in comes to: it passes, or refuses
+abbrev pub Look : Type 0
+Look = Result (Unit {0}) Refusal
 
 -- refused where the condition holds
 abbrev pub refuse_if : Bool → Refusal → Look
-refuse_if c x = cond c (Refuse x) Pass
+refuse_if c x = cond c (Err x) (Ok tt)
 
 abbrev pub look_then : Look → Look → Look
-look_then Pass b = b
-look_then (Refuse x) b = Refuse x
+look_then (Ok _) b = b
+look_then (Err x) b = Err x
 
 -- the first look of an order that refuses
 abbrev pub first_refusal : List Look → Look
-first_refusal [] = Pass
+first_refusal [] = Ok tt
 first_refusal (a ∷ l) = look_then a (first_refusal l)
 
 -- ---- what comes of a look, for an operation that answers `done w` or `refused x`
 
 abbrev pub answered : {A W : Type 0} → (W → A) → (Refusal → A) → Look → W → A
-answered done refused Pass w = done w
-answered done refused (Refuse x) w = refused x
+answered done refused (Ok _) w = done w
+answered done refused (Err x) w = refused x
 
 -- "Every number but 0 changes no lent byte": m where nothing was refused, else what was lent, o
 abbrev pub after : {B : Type 0} → Look → B → B → B
-after Pass m o = m
-after (Refuse x) m o = o
+after (Ok _) m o = m
+after (Err x) m o = o
 
 -- The contract of an operation that looks at l and is lent o: it answers `done w` and leaves m, or it answers the first refusal and leaves o.
 pub record Settled {A W B : Type 0} (done : W → A) (refused : Refusal → A) (l : List Look) (w : W) (m o : B) (r : A) (o' : B) : Type 0 where
@@ -43,8 +46,12 @@ pub record Settled {A W B : Type 0} (done : W → A) (refused : Refusal → A) (
 
 -- the number with its values: 0 with vs where nothing was refused
 abbrev pub look_told : Look → List Value → Told
-look_told Pass vs = told 0 vs
-look_told (Refuse x) vs = refusal_told x
+look_told (Ok _) vs = told 0 vs
+look_told (Err x) vs = refusal_told x
+
+-- "order and build: node count", and reading a Newick text
+abbrev pub written_told : Written → Told
+written_told w = told 0 (value number_of_nodes w.nodes ∷ [])
 
 -- ---- the looks that several operations share
 
@@ -68,9 +75,9 @@ abbrev pub look_length : ℕ → ℕ → Look
 look_length k l = refuse_if (bad_length l) (BadLength k)
 
 -- 6: "a tree rule is broken"
-abbrev pub ruled : Verdict → Look
-ruled Fine = Pass
-ruled (Breaks x) = Refuse (BadTree x)
+abbrev pub ruled : Result (Unit {0}) Broken → Look
+ruled (Ok _) = Ok tt
+ruled (Err x) = Err (BadTree x)
 
 abbrev pub look_rules : ℕ → ℕ → List ℕ → Look
 look_rules k n b = ruled (fault k (nodes b) n)

@@ -2,7 +2,7 @@
 #![tactic(auto)]
 
 ghost use Rattle.std.specs.Prelude.{◌≡◌, [], ◌∷◌, length};
-ghost use Rattle.answers.specs.Looks.{first_refusal, look_then, wrong_count, look_count, look_table, look_bytes, look_length, look_rules};
+ghost use Rattle.answers.specs.Looks.{first_refusal, wrong_count, look_count, look_table, look_bytes, look_length, look_rules};
 
 use refusals::Refusal;
 
@@ -10,23 +10,6 @@ use refusals::Refusal;
 #[derive(Clone, Copy)]
 pub struct Written {
     pub nodes: usize,
-}
-
-// A look at what is handed in.
-#[derive(Clone, Copy)]
-pub enum Look {
-    Pass,
-    Refuse(Refusal),
-}
-
-// Two looks, one after the other.
-pub fn and_then(a: Look, b: Look) -> Look
-    ensures { result ≡ look_then a b }
-{
-    match a {
-        Look::Pass => b,
-        Look::Refuse(x) => Look::Refuse(x),
-    }
 }
 
 // Is n 0 or over 64?
@@ -37,42 +20,36 @@ fn wrong_count(n: usize) -> bool
 }
 
 // Looks at a number of species.
-pub fn look_count(n: usize) -> Look
+pub fn look_count(n: usize) -> Result<(), Refusal>
     ensures { result ≡ look_count n }
 {
     if wrong_count(n) {
-        return Look::Refuse(Refusal::BadCounts);
+        return Err(Refusal::BadCounts);
     }
-    Look::Pass
+    Ok(())
 }
 
 // Looks at a number of species, and a table of them.
-pub fn look_table(n: usize, t: &[u8]) -> Look
+pub fn look_table(n: usize, t: &[u8]) -> Result<(), Refusal>
     ensures { result ≡ first_refusal (look_count n ∷ look_table n (length t.now) ∷ look_bytes t.now ∷ []) }
 {
-    if wrong_count(n) {
-        return Look::Refuse(Refusal::BadCounts);
-    }
+    look_count(n)?;
     if !tables::fits(t, n) {
-        return Look::Refuse(Refusal::BadTable);
+        return Err(Refusal::BadTable);
     }
-    let i = tables::over(t);
-    if i < t.len() {
-        return Look::Refuse(Refusal::BadByte(i));
+    match tables::over(t) {
+        Some(i) => Err(Refusal::BadByte(i)),
+        None => Ok(()),
     }
-    Look::Pass
 }
 
 // Looks at the body of tree k, over n species.
-pub fn look_body(k: usize, n: usize, body: &[u8]) -> Look
+pub fn look_body(k: usize, n: usize, body: &[u8]) -> Result<(), Refusal>
     ensures { result ≡ first_refusal (look_length k (length body.now) ∷ look_rules k n body.now ∷ []) }
 {
     if bodies::bad_length(body.len()) {
-        return Look::Refuse(Refusal::BadLength(k));
+        return Err(Refusal::BadLength(k));
     }
-    let v = rules::first_fault(k, n, body);
-    match v {
-        bodies::Verdict::Fine => Look::Pass,
-        bodies::Verdict::Breaks(x) => Look::Refuse(Refusal::BadTree(x)),
-    }
+    rules::first_fault(k, n, body)?;
+    Ok(())
 }

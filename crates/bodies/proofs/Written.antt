@@ -1,12 +1,11 @@
 -- The room once a body was written to its front. Assumes nothing.
 use mathlib.Core.List.{List, ◌++◌}
 use mathlib.Core.Path.{◌∙◌, ◌≡◌, ap, refl, sym}
-use Prim.Native.Nat.{◌+◌, ◌<◌, ◌≤◌, ℕ}
+use Prim.Native.Nat.{◌≤◌, ℕ}
 use native.Mathlib.Nat.{min-eq_left, zero-add}
-use native.Mathlib.Numerals.{add-one}
 use native.Mathlib.Omega.{arith}
-use lib.ListN.{drop, get_or, length, length-take, set, take}
-use lib.Seq.{drop_at, paste, paste-suc, sets-eq, take_at}
+use lib.ListN.{drop, length, length-take, take}
+use lib.Seq.{drop_at, sets-eq, take_at}
 use Rattle.bodies.specs.Draws.{written}
 
 -- the body stands at the front, and what is behind it is as it was
@@ -19,12 +18,8 @@ written_body o b h = ap (take (length b)) (written-cut o b h) ∙ take_at b (dro
 pub written_behind : (o b : List ℕ) → length b ≤ length o → drop (length b) (written o b) ≡ drop (length b) o
 written_behind o b h = ap (drop (length b)) (written-cut o b h) ∙ drop_at b (drop (length b) o) (length b) refl
 
--- one byte more copied
-pub copy_more : (o b : List ℕ) (j : ℕ) → j < length o → j < length b → set (paste o 0 b j) j (get_or b j 0) ≡ paste o 0 b (j + 1)
-copy_more o b j ho hb =
-    ap (λ (i : ℕ). set (paste o 0 b j) i (get_or b j 0)) (sym (zero-add j)) ∙ paste-suc o 0 b j 0 (omega arith) hb ∙ ap (paste o 0 b) (sym (add-one j))
-
-pub copied : (o b : List ℕ) (k : ℕ) → k ≤ length b → k ≤ length o → paste o 0 b k ≡ written o (take k b)
+-- the first k bytes of b, and what was behind them in o
+pub copied : (o b : List ℕ) (k : ℕ) → k ≤ length b → k ≤ length o → take k b ++ drop k o ≡ written o (take k b)
 copied o b k hb ho =
     let e : length (take k b) ≡ k = length-take k b ∙ min-eq_left hb in
-    ap (λ (j : ℕ). take k b ++ drop j o) (zero-add k ∙ sym e) ∙ sym (written-cut o (take k b) (omega (arith, e)))
+    ap (λ (j : ℕ). take k b ++ drop j o) (sym e) ∙ sym (written-cut o (take k b) (omega (arith, e)))

@@ -41,19 +41,6 @@ pub struct Broken {
     pub fault: Fault,
 }
 
-#[derive(Clone, Copy)]
-pub enum Verdict {
-    Fine,
-    Breaks(Broken),
-}
-
-// A byte as a number.
-pub fn wide(x: u8) -> usize
-    ensures { result ≡ x }
-{
-    x as usize
-}
-
 // Is the length 0, odd or over 254?
 pub fn bad_length(l: usize) -> bool
     ensures { result ≡ bad_length l }
@@ -143,9 +130,5 @@ pub fn copy(body: &[u8], k: usize, room: &mut [u8])
     ensures { room.new ≡ written room.old (take (body_length k) body.now) }
 {
     let end = WIDTH * k;
-    let mut i = 0;
-    while i < end {
-        room[i] = body[i];
-        i += 1;
-    }
+    room[..end].copy_from_slice(&body[..end]);
 }

@@ -19,18 +19,17 @@ use Rattle.bodies.specs.Draws.{node_count}
 use Rattle.bodies.specs.Nodes.{body_length, room_for}
 use Rattle.answers.proofs.Answered.{first_append, then_pass}
 use Rattle.answers.specs.Looks.{answered, first_refusal}
-use Rattle.answers.specs.declared.Look.{Look}
-use Rattle.answers.specs.declared.Look.TheVariants.{Pass, Refuse}
+use Rattle.answers.specs.Looks.{Look}
 use Rattle.admitting.specs.GoodSet.{GoodSet, input_looks}
 use Rattle.building.specs.Builds.{build_answer, build_done, counted_done, counted_refused, look_outcome, looked_by, nodes_in, outcome, outcome_by}
 use Rattle.building.specs.Vetoes.{veto_answer, veto_looked}
-use Rattle.building.specs.declared.Answer.TheVariants.{Done}
 use Rattle.answers.specs.declared.Written.{Written}
 use Rattle.admitting.proofs.Chosen.{input_good, set_below, set_small}
+use Rattle.std.specs.Prelude.{Ok, Err}
 
-done_pass : (c : ℕ) (k : Look) (w v : Written) → (answered (counted_done c) (counted_refused c) k v).answer ≡ Done w → (k ≡ Pass) × (w ≡ v)
-done_pass c Pass w v e = let z : v ≡ w = cc in (refl, sym z)
-done_pass c (Refuse x) w v e = let z : ◌≡◌ {A = ℕ} 0 1 = cc in absurd (omega arith)
+done_pass : (c : ℕ) (k : Look) (w v : Written) → (answered (counted_done c) (counted_refused c) k v).answer ≡ Ok w → (k ≡ Ok tt) × (w ≡ v)
+done_pass c (Ok _) w v e = let z : v ≡ w = cc in (refl, sym z)
+done_pass c (Err x) w v e = let z : ◌≡◌ {A = ℕ} 0 1 = cc in absurd (omega arith)
 
 module _ (v : Bool) (n s : ℕ) (t : List ℕ) (l : ℕ) (g : GoodSet n s) (room : room_for (size s) ≤ l) where
   tree_fits : (T : Tree) → outcome_by v n s t ≡ tree T → body_length (node_count T) ≤ l
@@ -46,7 +45,7 @@ module _ (v : Bool) (n s : ℕ) (t : List ℕ) (l : ℕ) (g : GoodSet n s) (room
 
 -- The body of a tree that was built lies in the room, by either build v and whatever looks come behind those at what is handed in.
 answer_fits : (v : Bool) (c n s : ℕ) (t : List ℕ) (l : ℕ) (later : List Look) (w : Written)
-    → (answered (counted_done c) (counted_refused c) (first_refusal (input_looks n s t l ++ later)) (build_done (outcome_by v n s t))).answer ≡ Done w → body_length w.nodes ≤ l
+    → (answered (counted_done c) (counted_refused c) (first_refusal (input_looks n s t l ++ later)) (build_done (outcome_by v n s t))).answer ≡ Ok w → body_length w.nodes ≤ l
 answer_fits v c n s t l later w e =
     let d = done_pass c (first_refusal (input_looks n s t l ++ later)) w (build_done (outcome_by v n s t)) e in
     let p = (then_pass (first_refusal (input_looks n s t l)) _).0 (sym (first_append (input_looks n s t l) later) ∙ d.0) in
@@ -54,9 +53,9 @@ answer_fits v c n s t l later w e =
     omega (arith, outcome_fits v n s t l i.1 i.2 (outcome_by v n s t) refl, ap (λ (x : Written). x.nodes) d.1)
 
 -- of the plain build
-pub done_fits : (n s : ℕ) (t : List ℕ) (l : ℕ) (w : Written) → (build_answer n s t l).answer ≡ Done w → body_length w.nodes ≤ l
+pub done_fits : (n s : ℕ) (t : List ℕ) (l : ℕ) (w : Written) → (build_answer n s t l).answer ≡ Ok w → body_length w.nodes ≤ l
 done_fits n s t l = answer_fits false (looked_by false n s t) n s t l (look_outcome (outcome n s t) ∷ [])
 
 -- and of the veto build
-pub veto-fits : (n s : ℕ) (t : List ℕ) (l : ℕ) (w : Written) → (veto_answer n s t l).answer ≡ Done w → body_length w.nodes ≤ l
+pub veto-fits : (n s : ℕ) (t : List ℕ) (l : ℕ) (w : Written) → (veto_answer n s t l).answer ≡ Ok w → body_length w.nodes ≤ l
 veto-fits n s t l = answer_fits true (veto_looked n s t) n s t l []

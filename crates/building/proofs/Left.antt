@@ -29,14 +29,13 @@ use Rattle.answers.proofs.Answered.{first_append, then_pass}
 use Rattle.answers.proofs.Good.{table_pass}
 use Rattle.answers.specs.Inputs.{Body, Count, Table}
 use Rattle.answers.specs.Looks.{after, answered, first_refusal, look_bytes, look_count, look_table}
-use Rattle.answers.specs.declared.Look.{Look}
-use Rattle.answers.specs.declared.Look.TheVariants.{Pass, Refuse}
+use Rattle.answers.specs.Looks.{Look}
 use Rattle.answers.specs.declared.Written.{Written}
 use Rattle.admitting.specs.GoodSet.{GoodSet, input_looks}
 use Rattle.building.specs.Builds.{build_after, build_answer, build_done, build_looks, build_room, counted_done, counted_refused, look_outcome, looked_by, nodes_in, outcome, outcome_by}
 use Rattle.building.specs.Vetoes.{veto_after, veto_answer, veto_looked, vetoed}
-use Rattle.building.specs.declared.Answer.TheVariants.{Done}
 use Rattle.admitting.proofs.Chosen.{input_good, set_below, set_small}
+use Rattle.std.specs.Prelude.{Ok, Err}
 
 -- b is the body of a tree that was built from the table t of n species
 pub record BuiltBody (n : ℕ) (t b : List ℕ) : Type 0 where
@@ -76,7 +75,7 @@ module _ (n s : ℕ) (t : List ℕ) (g : GoodSet n s) where
       veto_pc (entered t) (entered_proper t) n (has s) in_below some.0 some_in T (vetoed_too v T e) n (below n) (all_below n) inside
 
 -- nothing that is handed in is refused
-module _ (n s : ℕ) (t o : List ℕ) (passed : first_refusal (input_looks n s t (length o)) ≡ Pass) where
+module _ (n s : ℕ) (t o : List ℕ) (passed : first_refusal (input_looks n s t (length o)) ≡ Ok tt) where
   good : GoodSet n s
   good = (input_good n s t (length o) passed).1
 
@@ -88,7 +87,7 @@ module _ (n s : ℕ) (t o : List ℕ) (passed : first_refusal (input_looks n s t
       let a = (then_pass (look_count n) _).0 passed in
       let b = (then_pass (look_table n (length t)) _).0 a.1 in
       let c = (then_pass (look_bytes t) _).0 b.1 in
-      (table_pass n t).0 ((then_pass (look_table n (length t)) (first_refusal (look_bytes t ∷ []))).1 (b.0, (then_pass (look_bytes t) Pass).1 (c.0, refl)))
+      (table_pass n t).0 ((then_pass (look_table n (length t)) (first_refusal (look_bytes t ∷ []))).1 (b.0, (then_pass (look_bytes t) (Ok tt)).1 (c.0, refl)))
 
   module _ (v : Bool) (T : Tree) (e : outcome_by v n s t ≡ tree T) where
     formed : So (well_formed T)
@@ -117,30 +116,30 @@ module _ (n s : ℕ) (t o : List ℕ) (passed : first_refusal (input_looks n s t
 -- ---- by the answer
 
 -- the looks were answered with k, and the build came to R
-came : (c : ℕ) (k : Look) (R : Outcome) (o : List ℕ) (w : Written) → (answered (counted_done c) (counted_refused c) k (build_done R)).answer ≡ Done w
-    → (k ≡ Pass) × (take (body_length (nodes_in R)) (build_room R o) ≡ take (body_length w.nodes) (after k (build_room R o) o))
-came c Pass R o w e = let z : build_done R ≡ w = cc in (refl, ap (λ (x : Written). take (body_length x.nodes) (build_room R o)) z)
-came c (Refuse x) R o w e = let z : ◌≡◌ {A = ℕ} 0 1 = cc in absurd (omega arith)
+came : (c : ℕ) (k : Look) (R : Outcome) (o : List ℕ) (w : Written) → (answered (counted_done c) (counted_refused c) k (build_done R)).answer ≡ Ok w
+    → (k ≡ Ok tt) × (take (body_length (nodes_in R)) (build_room R o) ≡ take (body_length w.nodes) (after k (build_room R o) o))
+came c (Ok _) R o w e = let z : build_done R ≡ w = cc in (refl, ap (λ (x : Written). take (body_length x.nodes) (build_room R o)) z)
+came c (Err x) R o w e = let z : ◌≡◌ {A = ℕ} 0 1 = cc in absurd (omega arith)
 
-is_tree : (R : Outcome) → look_outcome R ≡ Pass → (T : Tree) × (R ≡ tree T)
+is_tree : (R : Outcome) → look_outcome R ≡ Ok tt → (T : Tree) × (R ≡ tree T)
 is_tree (tree T) e = (T, refl)
 is_tree (stop U) e = let z : ◌≡◌ {A = ℕ} 0 1 = cc in absurd (omega arith)
 
 module _ (n s : ℕ) (t o : List ℕ) (w : Written) where
-  leaves : (v : Bool) (T : Tree) → outcome_by v n s t ≡ tree T → first_refusal (input_looks n s t (length o)) ≡ Pass
+  leaves : (v : Bool) (T : Tree) → outcome_by v n s t ≡ tree T → first_refusal (input_looks n s t (length o)) ≡ Ok tt
       → BuiltBody n t (take (body_length (nodes_in (outcome_by v n s t))) (build_room (outcome_by v n s t) o))
   leaves v T e p = subst (λ (R : Outcome). BuiltBody n t (take (body_length (nodes_in R)) (build_room R o))) (sym e) (tree_leaves n s t o p v T e)
 
   -- the plain build,
-  pub build-leaves : (build_answer n s t (length o)).answer ≡ Done w → BuiltBody n t (take (body_length w.nodes) (build_after n s t o))
+  pub build-leaves : (build_answer n s t (length o)).answer ≡ Ok w → BuiltBody n t (take (body_length w.nodes) (build_after n s t o))
   build-leaves e =
       let k = came (looked_by false n s t) (first_refusal (build_looks n s t (length o))) (outcome n s t) o w e in
       let p = (then_pass (first_refusal (input_looks n s t (length o))) _).0 (sym (first_append (input_looks n s t (length o)) (look_outcome (outcome n s t) ∷ [])) ∙ k.0) in
-      let r = is_tree (outcome n s t) ((then_pass (look_outcome (outcome n s t)) Pass).0 p.1).0 in
+      let r = is_tree (outcome n s t) ((then_pass (look_outcome (outcome n s t)) (Ok tt)).0 p.1).0 in
       subst (BuiltBody n t) k.1 (leaves false r.0 r.1 p.0)
 
   -- and the veto build
-  pub veto-leaves : (veto_answer n s t (length o)).answer ≡ Done w → BuiltBody n t (take (body_length w.nodes) (veto_after n s t o))
+  pub veto-leaves : (veto_answer n s t (length o)).answer ≡ Ok w → BuiltBody n t (take (body_length w.nodes) (veto_after n s t o))
   unfolding outcome_by
   veto-leaves e =
       let k = came (veto_looked n s t) (first_refusal (input_looks n s t (length o))) (vetoed n s t) o w e in

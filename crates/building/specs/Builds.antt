@@ -5,18 +5,16 @@ use Rattle.trees.specs.Build.{Outcome, tree, stop, build_by}
 use Rattle.trees.specs.Visits.{looked}
 use Rattle.tables.specs.Bytes.{entered}
 use Rattle.bodies.specs.Draws.{node_count, body_of, written}
-use Rattle.refusals.specs.Told.{Told, looked_count, number_of_nodes, told, value}
-use Rattle.answers.specs.Looks.{Settled, after, answered, first_refusal}
-use Rattle.refusals.specs.Refusals.{refusal_told}
-use Rattle.answers.specs.declared.Look.{Look}
-use Rattle.answers.specs.declared.Look.TheVariants.{Pass, Refuse}
+use Rattle.refusals.specs.Told.{Told, looked_count, value}
+use Rattle.answers.specs.Looks.{Settled, after, answered, first_refusal, written_told}
+use Rattle.refusals.specs.Refusals.{refusal_told, told_by}
+use Rattle.answers.specs.Looks.{Look}
 use Rattle.refusals.specs.declared.Refusal.{Refusal}
 use Rattle.refusals.specs.declared.Refusal.TheVariants.{NoTree}
 use Rattle.answers.specs.declared.Written.{Written}
 use Rattle.admitting.specs.GoodSet.{input_looks}
-use Rattle.building.specs.declared.Answer.{Answer}
-use Rattle.building.specs.declared.Answer.TheVariants.{Done, Refused}
 use Rattle.building.specs.declared.Counted.{Counted}
+use Rattle.std.specs.Prelude.{Ok, Err, Result}
 
 -- what the plain build (false) or the veto build (true) comes to. Request T-03: "the build takes such a set"; it is s, of n species, and t the table
 unfoldable pub outcome_by : Bool → ℕ → ℕ → List ℕ → Outcome
@@ -27,8 +25,8 @@ outcome n s t = outcome_by false n s t
 
 -- 10: "no tree exists", with "the stopping set"
 abbrev pub look_outcome : Outcome → Look
-look_outcome (tree T) = Pass
-look_outcome (stop U) = Refuse (NoTree (number 64 U))
+look_outcome (tree T) = Ok tt
+look_outcome (stop U) = Err (NoTree (number 64 U))
 
 -- the tree's nodes and its body, where there is a tree
 abbrev pub nodes_in : Outcome → ℕ
@@ -58,11 +56,11 @@ looked_by v n s t = looked v (entered t) n (has s)
 
 -- It stands beside the answer, where c triples were looked at: 0 returns it;
 abbrev pub counted_done : ℕ → Written → Counted
-counted_done c w = record { answer = Done w; looked = c }
+counted_done c w = record { answer = Ok w; looked = c }
 
 -- "refusal 10 returns it, any other returns 0 for it".
 abbrev pub counted_refused : ℕ → Refusal → Counted
-counted_refused c x = record { answer = Refused x; looked = cond (eqb (refusal_told x).number 10) c 0 }
+counted_refused c x = record { answer = Err x; looked = cond (eqb (refusal_told x).number 10) c 0 }
 
 -- ---- the contract
 
@@ -82,9 +80,8 @@ build_after n s t o = after (first_refusal (build_looks n s t (length o))) (buil
 -- ---- what is told
 
 -- the answer alone
-abbrev pub answer_told : Answer → Told
-answer_told (Done w) = told 0 (value number_of_nodes w.nodes ∷ [])
-answer_told (Refused x) = refusal_told x
+abbrev pub answer_told : Result Written Refusal → Told
+answer_told = told_by written_told
 
 -- and behind its values the number of triples looked at, whatever the answer is
 abbrev pub build_told : Counted → Told

@@ -20,18 +20,15 @@ use Rattle.bodies.specs.Nodes.{body_length, longest, nodes}
 use Rattle.answers.proofs.Answered.{first_on, then_nothing}
 use Rattle.answers.specs.Looks.{answered, first_refusal, refuse_if}
 use Rattle.refusals.specs.declared.Contradiction.{Contradiction}
-use Rattle.answers.specs.declared.Look.{Look}
-use Rattle.answers.specs.declared.Look.TheVariants.{Pass}
+use Rattle.answers.specs.Looks.{Look}
 use Rattle.refusals.specs.declared.Refusal.TheVariants.{Contradicted, NoTree, Unforced}
 use Rattle.collections.specs.Layout.{trees}
 use Rattle.building.proofs.Left.{BuiltBody, build-leaves, veto-leaves}
 use Rattle.admitting.specs.GoodSet.{input_looks}
 use Rattle.building.specs.Builds.{build_answer, build_done, build_looks, counted_done, counted_refused, look_outcome, looked_by, outcome}
 use Rattle.building.specs.Vetoes.{veto_answer, veto_looked, vetoed}
-use Rattle.building.specs.declared.Answer as Building
 use Rattle.checking.proofs.Passing.{pc_first}
 use Rattle.checking.specs.Checks.{answer_of, check_answer, check_told, first_differs, first_unsure}
-use Rattle.checking.specs.declared.Answer as Check
 use Rattle.verdict_text.proofs.Said.{check_triples}
 use Rattle.verdict_text.specs.Verdict.{verdict_text}
 use Rattle.species_text.specs.Lines.{species_line, tree_line}
@@ -44,6 +41,8 @@ use Rattle.built_text.specs.Built.{built_text, tree_text, veto_text}
 use Rattle.built_text.specs.Sent.{Sent}
 use Rattle.built_text.specs.Words.{built_words, open_words, quarrel_words}
 use Rattle.built_text.proofs.Told.{open_done, plain_done, plain_refused}
+use Rattle.std.specs.Prelude.{Ok, Result}
+use Rattle.refusals.specs.declared.Refusal.{Refusal}
 
 -- behind another text
 pub sent_behind : (n : ℕ) (t u x : List ℕ) → Sent n t x → Sent n t (u ++ x)
@@ -74,7 +73,7 @@ module _ (n : ℕ) (t b : List ℕ) (g : BuiltBody n t b) where
       let unsure = first_unsure n t (tree_of b) in
       let q : check_answer n t b ≡ answer_of (refuse_if false (Contradicted x) ∷ refuse_if (ltb unsure (C n 3)) (Unforced unsure) ∷ []) = check_triples g.count g.table g.body
       ∙ ap (λ (p : Bool). answer_of (refuse_if p (Contradicted x) ∷ refuse_if (ltb unsure (C n 3)) (Unforced unsure) ∷ [])) no_difference in
-      agreed (ltb unsure (C n 3)) x unsure (sym (ap (λ (a : Check.Answer). (check_told a).number) q) ∙ e)
+      agreed (ltb unsure (C n 3)) x unsure (sym (ap (λ (a : Result (Unit {0}) Refusal). (check_told a).number) q) ∙ e)
 
   pub tree_sent : (w : List ℕ) → Sent n t (tree_text w n t b)
   unfolding send_text
@@ -91,8 +90,8 @@ module _ (n : ℕ) (t b : List ℕ) (g : BuiltBody n t b) where
 
 -- ---- the builds of the set s of the papers c, of which nothing is refused that is handed in
 
-module _ (c : List ℕ) (n s : ℕ) (t : List ℕ) (passed : first_refusal (input_looks n s t longest) ≡ Pass) where
-  veto_done : (veto_answer n s t longest).answer ≡ Building.TheVariants.Done (build_done (vetoed n s t))
+module _ (c : List ℕ) (n s : ℕ) (t : List ℕ) (passed : first_refusal (input_looks n s t longest) ≡ Ok tt) where
+  veto_done : (veto_answer n s t longest).answer ≡ Ok (build_done (vetoed n s t))
   veto_done = ap (λ (k : Look). (answered (counted_done (veto_looked n s t)) (counted_refused (veto_looked n s t)) k (build_done (vetoed n s t))).answer) passed
 
   veto_sent : Sent n t (veto_text n s t)

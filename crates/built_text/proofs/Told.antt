@@ -13,13 +13,13 @@ use Rattle.building.proofs.Fits.{done_fits, veto-fits}
 use Rattle.building.proofs.Left.{BuiltBody, build-leaves, veto-leaves}
 use Rattle.building.specs.Builds.{build_after, build_answer}
 use Rattle.building.specs.Vetoes.{veto_after, veto_answer}
-use Rattle.building.specs.declared.Answer as Building
 use Rattle.building.specs.declared.Counted.{Counted}
 use Rattle.collections.specs.Layout.{trees}
 use Rattle.species_text.specs.Lines.{species_line}
 use Rattle.papers_text.specs.Lines.{sides_text}
 use Rattle.built_text.specs.Built.{built_text, open_text, plain_text, quarrel_text, tree_text, veto_text}
 use Rattle.built_text.specs.Words.{built_words, open_words, quarrel_words}
+use Rattle.std.specs.Prelude.{Ok, Err}
 
 -- ---- what the veto build gave back, r, and the room o that it left
 
@@ -27,7 +27,7 @@ module _ (n s : ℕ) (t o : List ℕ) (r : Counted) (p : r ≡ veto_answer n s t
   open_is : open_text n t o r.answer ≡ veto_text n s t
   open_is = ap₂ (λ (l : List ℕ) (x : Counted). open_text n t l x.answer) q p
 
-  module _ (w : Written) (e : r.answer ≡ Building.TheVariants.Done w) where
+  module _ (w : Written) (e : r.answer ≡ Ok w) where
     pub open_fits : body_length w.nodes ≤ longest
     open_fits = veto-fits n s t longest w (sym (ap (λ (x : Counted). x.answer) p) ∙ e)
 
@@ -52,10 +52,10 @@ module _ (c : List ℕ) (n s : ℕ) (t o : List ℕ) (r : Counted) (p : r ≡ bu
   plain_is : plain_text c n s t o r.answer ≡ built_text c n s t
   plain_is = ap₂ (λ (l : List ℕ) (x : Counted). plain_text c n s t l x.answer) q p
 
-  pub plain_refused : (x : Refusal) → r.answer ≡ Building.TheVariants.Refused x → quarrel_text c n s t (refusal_told x) ≡ built_text c n s t
+  pub plain_refused : (x : Refusal) → r.answer ≡ Err x → quarrel_text c n s t (refusal_told x) ≡ built_text c n s t
   plain_refused x e = ap (plain_text c n s t o) (sym e) ∙ plain_is
 
-  module _ (w : Written) (e : r.answer ≡ Building.TheVariants.Done w) where
+  module _ (w : Written) (e : r.answer ≡ Ok w) where
     pub plain_fits : body_length w.nodes ≤ longest
     plain_fits = done_fits n s t longest w (sym (ap (λ (x : Counted). x.answer) p) ∙ e)
 

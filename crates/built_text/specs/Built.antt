@@ -6,20 +6,22 @@ use Rattle.refusals.specs.Refusals.{refusal_told}
 use Rattle.collections.specs.Layout.{trees}
 use Rattle.building.specs.Builds.{build_after, build_answer}
 use Rattle.building.specs.Vetoes.{veto_after, veto_answer}
-use Rattle.building.specs.declared.Answer as Building
 use Rattle.species_text.specs.Lines.{species_line, tree_line}
 use Rattle.sending.specs.Sends.{send_text}
 use Rattle.papers_text.specs.Lines.{sides_text}
 use Rattle.built_text.specs.Words.{built_words, open_words, quarrel_words}
+use Rattle.std.specs.Prelude.{Ok, Err, Result}
+use Rattle.refusals.specs.declared.Refusal.{Refusal}
+use Rattle.answers.specs.declared.Written.{Written}
 
 -- a built tree's body b: its line, and then what is said of it, with the table t of n species
 abbrev pub tree_text : List ℕ → ℕ → List ℕ → List ℕ → List ℕ
 tree_text w n t b = tree_line w b ++ send_text n t b
 
 -- where the veto build left the room o: "`built, leaving that open: NEWICK`, the tree of the veto build of S"
-abbrev pub open_text : ℕ → List ℕ → List ℕ → Building.Answer → List ℕ
-open_text n t o (Building.TheVariants.Done w) = tree_text open_words n t (take (body_length w.nodes) o)
-open_text n t o (Building.TheVariants.Refused x) = []
+abbrev pub open_text : ℕ → List ℕ → List ℕ → Result Written Refusal → List ℕ
+open_text n t o (Ok w) = tree_text open_words n t (take (body_length w.nodes) o)
+open_text n t o (Err x) = []
 
 abbrev pub veto_text : ℕ → ℕ → List ℕ → List ℕ
 veto_text n s t = open_text n t (veto_after n s t (replicate longest 0)) (veto_answer n s t longest).answer
@@ -33,9 +35,9 @@ abbrev pub quarrel_text : List ℕ → ℕ → ℕ → List ℕ → Told → Lis
 quarrel_text c n s t a = cond (eqb a.number 10) (stopped_text c n s t (get_or (unnamed a.values) 0 0)) []
 
 -- where the plain build left the room o: "a tree: `built: NEWICK`"
-abbrev pub plain_text : List ℕ → ℕ → ℕ → List ℕ → List ℕ → Building.Answer → List ℕ
-plain_text c n s t o (Building.TheVariants.Done w) = tree_text built_words n t (take (body_length w.nodes) o)
-plain_text c n s t o (Building.TheVariants.Refused x) = quarrel_text c n s t (refusal_told x)
+abbrev pub plain_text : List ℕ → ℕ → ℕ → List ℕ → List ℕ → Result Written Refusal → List ℕ
+plain_text c n s t o (Ok w) = tree_text built_words n t (take (body_length w.nodes) o)
+plain_text c n s t o (Err x) = quarrel_text c n s t (refusal_told x)
 
 abbrev pub built_text : List ℕ → ℕ → ℕ → List ℕ → List ℕ
 built_text c n s t = plain_text c n s t (build_after n s t (replicate longest 0)) (build_answer n s t longest).answer

@@ -1,30 +1,34 @@
 -- The bytes of a call, put together. Assumes nothing.
-use mathlib.Core.Bool.{Bool, true}
 use mathlib.Core.List.{List, [], ◌∷◌, ◌++◌}
-use mathlib.Core.Path.{◌∙◌, ◌≡◌, refl, subst, sym}
-use Prim.Native.Nat.{ℕ, zero, suc, ◌+◌, ◌*◌, ◌<◌, ◌≤◌}
+use mathlib.Core.Path.{◌∙◌, ◌≡◌, refl, sym}
+use Prim.Native.Nat.{ℕ, zero, suc, ◌+◌, ◌*◌, ◌<◌, ◌≤◌, ◌/◌}
+use native.Mathlib.Nat.{mul-div-le, mul-le-mul_left, le_trans}
 use native.Mathlib.Omega.{arith}
-use lib.ListN.{get_or, length, take}
-use lib.Seq.{get_or-take, length-take-le, take_all}
+use lib.ListN.{get_or, get_or-append, length}
+use Rattle.std.specs.Prelude.{IfOk, IfSome, None, Option, Some}
+use Rattle.std.specs.Option.{ok_or}
 use Rattle.input.proofs.Reading.{some_both, some_none, some_took, took_both}
-use Rattle.calls.specs.Calls.{CallBytes, CountBytes, FieldBytes, FieldsBytes, HeadBytes, NumberBytes, Then}
-use Rattle.shapes.specs.Shapes.{item_sizes, shape}
-use Rattle.input.specs.Inputs.{InBuffer, Took, TookSome}
-use Rattle.shapes.specs.Numbers.{eight_at, four_at}
+use Rattle.calls.specs.Calls.{CallBytes, CountBytes, FieldBytes, FieldsBytes, NumberBytes, Then, ReadCall, fields_of}
+use Rattle.shapes.specs.Shapes.{shape}
+use Rattle.input.specs.Inputs.{Took, TookSome}
+use Rattle.shapes.specs.Numbers.{eight_at}
+use Rattle.calls.specs.declared.call.Call.{Call}
+use Rattle.calls.specs.declared.Fields.{Fields}
+use Rattle.calls.specs.declared.NoCall.{NoCall}
 use Rattle.shapes.specs.declared.Shape.{Shape}
-use Rattle.input.specs.declared.Input.{Input}
+use Rattle.input.specs.declared.Reader.{Reader}
 
 -- the bytes of a number stand in the front of a list as they stand in the list
-eight_front : (n i : ℕ) (b : List ℕ) → i + 8 ≤ n → eight_at (take n b) i ≡ eight_at b i
-eight_front n i b h = rw (
-  get_or-take n b i 0 (omega arith),
-  get_or-take n b (i + 1) 0 (omega arith),
-  get_or-take n b (i + 2) 0 (omega arith),
-  get_or-take n b (i + 3) 0 (omega arith),
-  get_or-take n b (i + 4) 0 (omega arith),
-  get_or-take n b (i + 4 + 1) 0 (omega arith),
-  get_or-take n b (i + 4 + 2) 0 (omega arith),
-  get_or-take n b (i + 4 + 3) 0 (omega arith),
+eight_front : (t u : List ℕ) (i : ℕ) → i + 8 ≤ length t → eight_at (t ++ u) i ≡ eight_at t i
+eight_front t u i h = rw (
+  get_or-append t u 0 i (omega arith),
+  get_or-append t u 0 (i + 1) (omega arith),
+  get_or-append t u 0 (i + 2) (omega arith),
+  get_or-append t u 0 (i + 3) (omega arith),
+  get_or-append t u 0 (i + 4) (omega arith),
+  get_or-append t u 0 (i + 4 + 1) (omega arith),
+  get_or-append t u 0 (i + 4 + 2) (omega arith),
+  get_or-append t u 0 (i + 4 + 3) (omega arith),
 ) refl
 
 each : (p q r : ℕ) (b : List ℕ) → p ≡ eight_at b 0 → q ≡ eight_at b 8 → r ≡ eight_at b 16 → (j : ℕ) → j < 3 → get_or (p ∷ q ∷ r ∷ []) j 0 ≡ eight_at b (8 * j)
@@ -34,43 +38,43 @@ each p q r b d e f (suc (suc zero)) h = f
 each p q r b d e f (suc (suc (suc j))) h = absurd (omega arith)
 
 -- the first m of three numbers
-pub numbers-front : (m p q r : ℕ) (b : List ℕ) → m ≤ 3 → length b ≡ 24 → p ≡ eight_at b 0 → q ≡ eight_at b 8 → r ≡ eight_at b 16 → NumberBytes m (p ∷ q ∷ r ∷ []) (take (8 * m) b)
-numbers-front m p q r b h l d e f = (length-take-le (8 * m) b (omega arith), λ j i. each p q r b d e f j (omega arith) ∙ sym (eight_front (8 * m) (8 * j) b (omega arith)))
+pub numbers_front : (m p q r : ℕ) (t u : List ℕ) → m ≤ 3 → length t ≡ 8 * m → p ≡ eight_at (t ++ u) 0 → q ≡ eight_at (t ++ u) 8 → r ≡ eight_at (t ++ u) 16 → NumberBytes m (p ∷ q ∷ r ∷ []) t
+numbers_front m p q r t u h l d e f = (l, λ j i. each p q r (t ++ u) d e f j (omega arith) ∙ eight_front t u (8 * j) (omega arith))
 
--- a count
-pub count_front : (n : ℕ) (b : List ℕ) → length b ≡ 4 → n ≡ four_at b 0 → CountBytes n (take 4 b)
-count_front n b l e = rw (take_all 4 b (omega arith)) (l, e)
-
--- the byte of a call that there is, and then its numbers
-pub head_both : {i j f l : Input} {b c d ns : List ℕ} {k m : ℕ} {known : Bool} →
-    Took i b (k ∷ []) j c → (f.whole ≡ true → (known ≡ true) × (f ≡ j)) → known ≡ (shape k).known → m ≡ (shape k).numbers → TookSome (NumberBytes m ns) f c l d → TookSome (HeadBytes k ns) i b l d
-head_both {l} {c} {d} {ns} {k} p g e n q = record {
-  inside = q.inside;
-  took = λ w.
-      let y = q.took w in
-      let h = g (y.1.uncut w) in
-      (k ∷ y.0, took_both p (subst (λ (x : Input). Took x c y.0 l d) h.1 y.1), record { known = sym e ∙ h.0; numbers = y.0; are_numbers = subst (λ (x : ℕ). NumberBytes x ns y.0) n y.2; same = refl });
-}
-
--- a call that has no such field
-pub field_none : {i : Input} {b : List ℕ} (item : ℕ) → item ≡ 0 → InBuffer i b → TookSome (FieldBytes item []) i b i b
-field_none item e h = rw e (some_none h (refl, refl))
+-- so many items of so many bytes are no more bytes than there is room for
+pub fits : (most item n : ℕ) → n ≤ most / item → item * n ≤ most
+fits most item n h = le_trans (mul-le-mul_left item h) (mul-div-le most item)
 
 items : (item n : ℕ) (x s : List ℕ) → (item ≡ 0 → ⊥) → CountBytes n s → length x ≡ item * n → FieldBytes item x (s ++ x)
 items zero n x s h c e = absurd (h refl)
 items (suc item) n x s h c e = record { items = n; long = e; count = s; is_count = c; same = refl }
 
 -- how many items, and then these
-pub field_both : {i j k : Input} {b c d : List ℕ} (item n : ℕ) (x : List ℕ) → (item ≡ 0 → ⊥) → length x ≡ item * n → TookSome (CountBytes n) i b j c → Took j c x k d → TookSome (FieldBytes item x) i b k d
+pub field_both : {i j k : Reader} (item n : ℕ) (x : List ℕ) → (item ≡ 0 → ⊥) → length x ≡ item * n → TookSome (CountBytes n) i j → Took j x k → TookSome (FieldBytes item x) i k
 field_both item n x h e p q = some_both {Q = λ (t : List ℕ). t ≡ x} (λ s t y z. rw z (items item n x s h y e)) p (some_took q refl)
 
 -- first the ones, and then the others
-then_both : {P Q : List ℕ → Type 0} {i j k : Input} {b c d : List ℕ} → TookSome P i b j c → TookSome Q j c k d → TookSome (Then P Q) i b k d
+then_both : {P Q : List ℕ → Type 0} {i j k : Reader} → TookSome P i j → TookSome Q j k → TookSome (Then P Q) i k
 then_both = some_both λ s t p q. record { front = s; back = t; is_front = p; is_back = q; same = refl }
 
--- the head, and then the fields
-pub call_both : {i f g h j l : Input} {b c d e o r : List ℕ} (k : ℕ) (ns x y z w : List ℕ) (s : Shape) → s ≡ shape k →
-    TookSome (HeadBytes k ns) i b f c → TookSome (FieldBytes s.first x) f c g d → TookSome (FieldBytes s.second y) g d h e → TookSome (FieldBytes s.third z) h e j o → TookSome (FieldBytes s.fourth w) j o l r → TookSome (CallBytes k ns (x ∷ y ∷ z ∷ w ∷ [])) i b l r
-call_both {f = f} {l = l} {c = c} {r = r} k ns x y z w s e p first second third fourth =
-    let all = then_both first (then_both second (then_both third (then_both fourth (some_none fourth.inside refl)))) in
-    then_both p (subst (λ (q : Shape). TookSome (FieldsBytes (item_sizes q) (x ∷ y ∷ z ∷ w ∷ [])) f c l r) e all)
+-- the fields, one after the other
+pub fields_all : {f g h j l : Reader} (x y z w ns : List ℕ) → length ns ≡ 4 →
+    TookSome (FieldBytes (get_or ns 0 0) x) f g → TookSome (FieldBytes (get_or ns 1 0) y) g h → TookSome (FieldBytes (get_or ns 2 0) z) h j → TookSome (FieldBytes (get_or ns 3 0) w) j l → TookSome (FieldsBytes ns (x ∷ y ∷ z ∷ w ∷ [])) f l
+fields_all {l = l} x y z w (a ∷ b ∷ c ∷ d ∷ []) e p q r s = then_both p (then_both q (then_both r (then_both s (some_none l refl))))
+fields_all x y z w [] e p q r s = absurd (omega arith)
+fields_all x y z w (a ∷ []) e p q r s = absurd (omega arith)
+fields_all x y z w (a ∷ b ∷ []) e p q r s = absurd (omega arith)
+fields_all x y z w (a ∷ b ∷ c ∷ []) e p q r s = absurd (omega arith)
+fields_all x y z w (a ∷ b ∷ c ∷ d ∷ k ∷ ns) e p q r s = absurd (omega arith)
+
+-- behind the byte of a call its numbers, and then the fields
+pub rest_both : {i j l : Reader} {ns : List ℕ} {xs : List (List ℕ)} (k : ℕ) (s : Shape) → Some s ≡ shape k → TookSome (NumberBytes s.numbers ns) i j → TookSome (FieldsBytes s.items xs) j l → TookSome (λ t. CallBytes k ns xs (k ∷ t)) i l
+rest_both k s e = some_both λ t u p q. record {
+  s = s;
+  bytes = record { front = k ∷ t; back = u; is_front = record { known = sym e; numbers = t; are_numbers = p; same = refl }; is_back = q; same = refl };
+}
+
+-- the byte of a call, and what follows it
+pub call_read : {r q : Reader} {k : ℕ} (s : Reader) (f : Fields) (o : Option Call) (e : NoCall) → Took r (k ∷ []) q → IfSome o (λ c. TookSome (λ t. CallBytes c.byte c.numbers (fields_of c f) (k ∷ t)) q s) → IfOk (ok_or o e) (λ c. ReadCall r c s (fields_of c f))
+call_read s f (Some c) e p q = record { bytes = some_took (took_both p q.took) q.are }
+call_read s f None e p q = tt

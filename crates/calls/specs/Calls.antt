@@ -1,10 +1,12 @@
 -- How a call is written: its byte, then its numbers, then its fields, four at most. The form is ours: `second/README.md`, "The calls".
-use Rattle.std.specs.Prelude.{true, List, [], ◌∷◌, ◌++◌, ◌≡◌, ℕ, zero, suc, ◌*◌, ◌<◌, get_or, length, take}
+use Rattle.std.specs.Prelude.{List, [], ◌∷◌, ◌++◌, ◌≡◌, ℕ, zero, suc, ◌*◌, ◌<◌, Some, get_or, length, take}
 use Rattle.input.specs.Inputs.{TookSome}
-use Rattle.input.specs.declared.Input.{Input}
+use Rattle.input.specs.declared.Reader.{Reader}
 use Rattle.shapes.specs.Numbers.{eight_at, four_at}
-use Rattle.shapes.specs.Shapes.{item_sizes, shape}
-use Rattle.calls.specs.declared.Call.{Call}
+use Rattle.shapes.specs.Shapes.{shape}
+use Rattle.shapes.specs.declared.Shape.{Shape}
+use Rattle.calls.specs.declared.call.Call.{Call}
+use Rattle.calls.specs.declared.Fields.{Fields}
 
 -- the bytes t are the first m of the numbers ns, eight bytes each
 abbrev pub NumberBytes : ℕ → List ℕ → List ℕ → Type 0
@@ -27,11 +29,11 @@ abbrev pub FieldBytes : ℕ → List ℕ → List ℕ → Type 0
 FieldBytes zero x t = (x ≡ []) × (t ≡ [])
 FieldBytes (suc item) x t = ItemBytes (suc item) x t
 
--- the bytes t are the byte k of a call that there is, and its numbers ns
-pub record HeadBytes (k : ℕ) (ns t : List ℕ) : Type 0 where
-  pub known : (shape k).known ≡ true
+-- the bytes t are the byte k of a call of the shape s, and its numbers ns
+pub record HeadBytes (s : Shape) (k : ℕ) (ns t : List ℕ) : Type 0 where
+  pub known : shape k ≡ Some s
   pub numbers : List ℕ
-  pub are_numbers : NumberBytes (shape k).numbers ns numbers
+  pub are_numbers : NumberBytes s.numbers ns numbers
   pub same : t ≡ k ∷ numbers
 
 -- the bytes t are some of which P is true, and then some of which Q is true
@@ -49,15 +51,15 @@ FieldsBytes [] (x ∷ xs) t = ⊥
 FieldsBytes (item ∷ sizes) [] t = ⊥
 FieldsBytes (item ∷ sizes) (x ∷ xs) t = Then (FieldBytes item x) (FieldsBytes sizes xs) t
 
--- the bytes t are the call with the byte k, the numbers ns, and the fields xs
-abbrev pub CallBytes : ℕ → List ℕ → List (List ℕ) → List ℕ → Type 0
-CallBytes k ns xs t = Then (HeadBytes k ns) (FieldsBytes (item_sizes (shape k)) xs) t
+-- the bytes t are the call with the byte k, the numbers ns, and the fields xs; s is its shape
+pub record CallBytes (k : ℕ) (ns : List ℕ) (xs : List (List ℕ)) (t : List ℕ) : Type 0 where
+  pub s : Shape
+  pub bytes : Then (HeadBytes s k ns) (FieldsBytes s.items xs) t
 
--- the fields of the call c, at the fronts of x, y, z and w
-abbrev pub fields_of : Call → List ℕ → List ℕ → List ℕ → List ℕ → List (List ℕ)
-fields_of c x y z w = take c.first x ∷ take c.second y ∷ take c.third z ∷ take c.fourth w ∷ []
+-- the fields of the call c, at the fronts of where they went
+abbrev pub fields_of : Call → Fields → List (List ℕ)
+fields_of c f = take (get_or c.lengths 0 0) f.first ∷ take (get_or c.lengths 1 0) f.second ∷ take (get_or c.lengths 2 0) f.third ∷ take (get_or c.lengths 3 0) f.fourth ∷ []
 
--- the call c was read of the input i with the buffer b, which is b' now, and its fields are xs
-pub record ReadCall (i : Input) (b : List ℕ) (c : Call) (b' : List ℕ) (xs : List (List ℕ)) : Type 0 where
-  pub begun : c.left.whole ≡ true → c.begun ≡ true
-  pub bytes : TookSome (CallBytes c.byte c.numbers xs) i b c.left b'
+-- the call c was read of the reader r, which is r' now, and its fields are xs
+pub record ReadCall (r : Reader) (c : Call) (r' : Reader) (xs : List (List ℕ)) : Type 0 where
+  pub bytes : TookSome (CallBytes c.byte c.numbers xs) r r'

@@ -8,11 +8,11 @@ use Rattle.triples.specs.Index.{C}
 use Rattle.bodies.specs.Draws.{tree_of}
 use Rattle.refusals.specs.Told.{Told, told}
 use Rattle.answers.specs.Looks.{answered, first_refusal, look_bytes, look_count, look_length, look_rules, look_table, refuse_if}
-use Rattle.refusals.specs.Refusals.{refusal_told}
-use Rattle.answers.specs.declared.Look.{Look}
+use Rattle.refusals.specs.Refusals.{told_by}
+use Rattle.answers.specs.Looks.{Look}
 use Rattle.refusals.specs.declared.Refusal.TheVariants.{Contradicted, Unforced}
-use Rattle.checking.specs.declared.Answer.{Answer}
-use Rattle.checking.specs.declared.Answer.TheVariants.{Passes, Refused}
+use Rattle.std.specs.Prelude.{Ok, Err, Result}
+use Rattle.refusals.specs.declared.Refusal.{Refusal}
 
 module _ (n : ℕ) (t : List ℕ) where
   -- the first index with an entered triplet that differs from what T holds; the first with a triplet of T that is not forced: "The first triple in index order"
@@ -40,12 +40,11 @@ module _ (n : ℕ) (t : List ℕ) where
   abbrev pub check_looks : List ℕ → List Look
   check_looks b = candidate_looks b ++ triples_looks (tree_of b)
 
-abbrev pub answer_of : List Look → Answer
-answer_of l = answered (λ (a : Answer). a) Refused (first_refusal l) Passes
+abbrev pub answer_of : List Look → Result (Unit {0}) Refusal
+answer_of l = answered (λ (a : Result (Unit {0}) Refusal). a) Err (first_refusal l) (Ok tt)
 
-abbrev pub check_answer : ℕ → List ℕ → List ℕ → Answer
+abbrev pub check_answer : ℕ → List ℕ → List ℕ → Result (Unit {0}) Refusal
 check_answer n t b = answer_of (check_looks n t b)
 
-abbrev pub check_told : Answer → Told
-check_told Passes = told 0 []
-check_told (Refused x) = refusal_told x
+abbrev pub check_told : Result (Unit {0}) Refusal → Told
+check_told = told_by (λ u. told 0 [])

@@ -3,16 +3,19 @@ use mathlib.Core.Bool.{Bool, So, ◌&&◌, ◌||◌, cond, false≢true, not}
 use mathlib.Core.List.{List, Memᴰ, [], ◌∷◌}
 use mathlib.Core.Logic.{◌≢◌}
 use mathlib.Core.Path.{◌∙◌, ◌≡◌, ap, ap₂, fun_ext, refl, subst, sym}
-use Prim.Native.Nat.{◌<◌, ◌≤◌, ℕ}
+use Prim.Native.Nat.{◌<◌, ◌≤◌, ◌^◌, ℕ}
 use native.Mathlib.Omega.{arith}
 use borrow.Author.Tests.{ne_eqb}
 use lib.Dec.{eqb}
 use lib.ListN.{get_or, length}
 use Rattle.sets.proofs.Bools.{and_i, and_l, and_r, bool_ext, by_order, not_e, not_i, or_case, or_l, or_r}
+use Rattle.std.proofs.Common.{None, Some}
 use Rattle.sets.proofs.Digits.{minus-le}
+use Rattle.sets.proofs.Facts.{minus_e}
 use Rattle.sets.proofs.Least as Least
 use Rattle.sets.proofs.Tests.{has_empty, has-minus, has-number, has_true, number_empty, number_lt, number_unique, true_has}
 use Rattle.sets.specs.Sets.{Lowest, has, minus, number}
+use Rattle.sets.specs.Sets.{lowest as low}
 use Rattle.sets.specs.Species.{Below}
 use Rattle.trees.proofs.Formed.{Formed, FormedF}
 use Rattle.trees.proofs.House.{by_low, house_formed, house_housed, house-under, house_f-under}
@@ -24,7 +27,7 @@ use Rattle.bodies.proofs.Under.{Child, bounded, child_later, children-apart, is_
 use Rattle.bodies.specs.Draws.{forest_of, grow, subtree}
 use Rattle.groups.specs.Groups.{Groups, set_of}
 use Rattle.bodies.specs.Nodes.{Good, Nodes, children, none}
-use Rattle.children.specs.Children.{ChildWith, FindsChild}
+use Rattle.children.specs.Children.{ChildWith, Gives}
 
 -- ---- each tree among the children in house order is the house order of a child
 
@@ -80,13 +83,19 @@ pub record Left (v : Nodes) (i rest : ℕ) (f : Forest) : Type 0 where
   pub order : HousedF f
   pub species : rest ≡ number 64 (under_f f)
 
--- the next child is c, and which are left behind it
-pub record NextChild (v : Nodes) (i rest : ℕ) (f : Forest) (c : ℕ) : Type 0 where
+-- the next child is c, and the others are left behind it
+pub record NextChild (v : Nodes) (i : ℕ) (f : Forest) (c rest' : ℕ) : Type 0 where
   pub later : i < c
   pub within : c < v.count
   pub others : Forest
   pub is : f ≡ cons (house (subtree v c)) others
-  pub left : (rest' : ℕ) → rest' ≡ minus rest (set_of (subtree v c)) → Left v i rest' others
+  pub left : Left v i rest' others
+
+-- a species of both that is taken off
+pub off_less : (s t x : ℕ) → So (has s x) → So (has t x) → minus s t < s
+off_less s t x p q =
+    let n : minus s t ≡ s → ⊥ = λ e. (minus_e s t x (subst (λ (z : ℕ). So (has z x)) (sym e) p)).1 q in
+    omega (arith, minus-le s t, n)
 
 -- node i and its children: a leaf's species, or two or more children
 pub data Opened (v : Nodes) (i : ℕ) : Type 0 where
@@ -123,43 +132,66 @@ module _ (v : Nodes) (g : Good 64 v) where
       member = ap (λ (s : ℕ). has s x) (q.group c h.within) ∙ has-number 64 (under (subtree v c)) x l ∙ p;
     }
 
+    -- the species that is looked for, where a child is left: the first child's lowest
+    record Looked (i x : ℕ) (u : Tree) : Type 0 where
+      small : x < 64
+      child : ℕ
+      kid : Child v i child
+      is : u ≡ house (subtree v child)
+      has_it : So (under (subtree v child) x)
+
+    looked : (i rest : ℕ) (u : Tree) (f : Forest) → EveryF (KidOf v i) (cons u f) → FormedF (cons u f) → HousedF (cons u f)
+        → rest ≡ number 64 (under_f (cons u f)) → (rest ≢ 0) × Looked i (low rest) u
+    looked i rest u f k w h e =
+        let b = kids_below i (cons u f) k in
+        let nz : rest ≢ 0 = λ z. false≢true (sym (has_empty (lowest u)) ∙ ap (λ (s : ℕ). has s (lowest u)) (sym z ∙ e) ∙ has_first u f w b) in
+        let m = Least.lowest_of rest (subst (λ (z : ℕ). z < 2 ^ 64) (sym e) (number_lt 64 (under_f (cons u f)))) in
+        let xe : low rest ≡ lowest u = first_lowest u f w h b rest (low rest) e nz m in
+        let ux : So (under u (low rest)) = subst (λ (z : ℕ). So (under u z)) (sym xe) (lowest_in u w.0) in
+        let d = k.0.0 in (
+          nz,
+          record {
+            small = m.small nz;
+            child = d;
+            kid = k.0.1;
+            is = k.0.2;
+            has_it = sym (house-under (subtree v d) (low rest)) ∙ subst (λ (z : Tree). So (under z (low rest))) k.0.2 ux;
+          },
+        )
+
     -- the child that has the lowest species left
-    pub left-next : {i rest : ℕ} {f : Forest} → Left v i rest f → rest ≢ 0 → (x : ℕ) → Lowest rest x → (c : ℕ)
-        → FindsChild v groups i x c → NextChild v i rest f c
-    left-next {i = i} {rest = rest} {f = f} t nz x m c found = go f t.kids t.formed t.order t.species
+    pub left-next : {i rest rest' : ℕ} {f : Forest} → Left v i rest f → (c : ℕ) → Gives v groups i rest (Some c) rest' → NextChild v i f c rest'
+    left-next {i = i} {rest = rest} {rest' = rest'} {f = f} t c found = go f t.kids t.formed t.order t.species
       where
-        go : (f : Forest) → EveryF (KidOf v i) f → FormedF f → HousedF f → rest ≡ number 64 (under_f f) → NextChild v i rest f c
-        go nil k w h e = absurd (nz (e ∙ number_empty 64))
+        go : (f : Forest) → EveryF (KidOf v i) f → FormedF f → HousedF f → rest ≡ number 64 (under_f f) → NextChild v i f c rest'
+        go nil k w h e = absurd (found.0 (e ∙ number_empty 64))
         go (cons u f) k w h e =
-            let l = m.small nz in
-            let xe : x ≡ lowest u = first_lowest u f w h (kids_below i (cons u f) k) rest x e nz m in
-            let ux : So (under u x) = subst (λ (z : ℕ). So (under u z)) (sym xe) (lowest_in u w.0) in
-            let d = k.0.0 in
-            let dx : So (under (subtree v d) x) = sym (house-under (subtree v d) x) ∙ subst (λ (z : Tree). So (under z x)) k.0.2 ux in
-            let r = of_group i x c l (found d (in_group i x d l k.0.1 dx)) in
-            let eu : u ≡ house (subtree v c) = k.0.2 ∙ ap (λ (z : ℕ). house (subtree v z)) (one_child i d c x k.0.1 r.0 dx r.1) in
+            let o = (looked i rest u f k w h e).1 in
+            let r = of_group i (low rest) c o.small found.1 in
+            let eu : u ≡ house (subtree v c) = o.is ∙ ap (λ (z : ℕ). house (subtree v z)) (one_child i o.child c (low rest) o.kid r.0 o.has_it r.1) in
             let su : under u ≡ under (subtree v c) = ap under eu ∙ fun_ext (house-under (subtree v c)) in
             record {
               later = child_later 64 v g i c r.0;
               within = r.0.within;
               others = f;
               is = ap (λ (z : Tree). cons z f) eu;
-              left = λ rest' es. record {
+              left = record {
                 kids = k.1;
                 formed = w.2;
                 order = h.2;
-                species = es ∙ ap₂ minus e (ap (number 64) (sym su)) ∙ first_off u f w.1;
+                species = found.2 ∙ ap₂ minus e (q.group c r.0.within ∙ ap (number 64) (sym su)) ∙ first_off u f w.1;
               };
             }
 
-  -- nothing is left
-  pub left_end : {i rest : ℕ} {f : Forest} → Left v i rest f → rest ≡ 0 → f ≡ nil
-  left_end {i = i} {rest = rest} {f = f} t z = go f t.kids t.formed t.species
-    where
-      go : (f : Forest) → EveryF (KidOf v i) f → FormedF f → rest ≡ number 64 (under_f f) → f ≡ nil
-      go nil k w e = refl
-      go (cons u f) k w e =
-          absurd (false≢true (sym (has_empty (lowest u)) ∙ ap (λ (s : ℕ). has s (lowest u)) (sym z ∙ e) ∙ has_first u f w (kids_below i (cons u f) k)))
+    -- nothing is left
+    pub left_end : {i rest : ℕ} {f : Forest} → Left v i rest f → (rest' : ℕ) → Gives v groups i rest None rest' → f ≡ nil
+    left_end {i = i} {rest = rest} {f = f} t rest' over = go f t.kids t.formed t.order t.species
+      where
+        go : (f : Forest) → EveryF (KidOf v i) f → FormedF f → HousedF f → rest ≡ number 64 (under_f f) → f ≡ nil
+        go nil k w h e = refl
+        go (cons u f) k w h e =
+            let l = looked i rest u f k w h e in
+            absurd (over l.0 l.1.child (in_group i (low rest) l.1.child l.1.small l.1.kid l.1.has_it))
 
   module _ (i : ℕ) (h : i < v.count) where
     pub opened : Opened v i

@@ -1,3 +1,2 @@
--- Which line a call gets, and what it takes of the lent memory: definitions only.
-pub mod Room
+-- Which line a call gets: definitions only.
 pub mod Chosen

@@ -15,8 +15,7 @@ use Rattle.bodies.specs.Nodes.{bad_length, longest, nodes}
 use Rattle.answers.proofs.Answered.{pass_false, then_pass}
 use Rattle.answers.proofs.Good.{rules_pass}
 use Rattle.answers.specs.Looks.{answered, first_refusal, look_length, look_rules, refuse_if}
-use Rattle.answers.specs.declared.Look.{Look}
-use Rattle.answers.specs.declared.Look.TheVariants.{Pass, Refuse}
+use Rattle.answers.specs.Looks.{Look}
 use Rattle.refusals.specs.declared.Refusal.{Refusal}
 use Rattle.refusals.specs.declared.Refusal.TheVariants.{BadCounts, BadVersion, EndsEarly}
 use Rattle.collections.proofs.Starts.{body_length_lem, start-suc}
@@ -24,15 +23,15 @@ use Rattle.collections.proofs.Steps.{Sound, end_good}
 use Rattle.collections.specs.Collection.{Collection}
 use Rattle.collections.specs.Layout.{body_at, length_at, longest_collection, no_byte, short_body, short_header, short_length, species, start, trees, version, wrong_counts, wrong_version}
 use Rattle.collections.specs.Reads.{counts_of, looks_from, read_answer, read_looks}
-use Rattle.collections.specs.declared.Answer.TheVariants.{Done, Refused}
 use Rattle.collections.specs.declared.Counts.{Counts}
+use Rattle.std.specs.Prelude.{Ok, Err}
 
 module _ (b : List ℕ) where
   -- every tree from k on is good, and what follows the last one is nothing
-  from_pass : (k j : ℕ) → k + j ≡ trees b → start b k ≤ length b → first_refusal (looks_from b k j) ≡ Pass → ((m : ℕ) → k ≤ m → m < trees b → Sound b m) × (length b ≡ start b (trees b))
+  from_pass : (k j : ℕ) → k + j ≡ trees b → start b k ≤ length b → first_refusal (looks_from b k j) ≡ Ok tt → ((m : ℕ) → k ≤ m → m < trees b → Sound b m) × (length b ≡ start b (trees b))
   unfolding looks_from
   from_pass k zero e le h =
-      let p = (then_pass (refuse_if (ltb (start b k) (length b)) _) Pass).0 h in
+      let p = (then_pass (refuse_if (ltb (start b k) (length b)) _) (Ok tt)).0 h in
       let q : k ≡ trees b = omega arith in
       ((λ m l r. absurd (omega arith)), omega (arith, ltb-false (start b k) (length b) (pass_false (ltb (start b k) (length b)) _ p.0), ap (start b) q))
   from_pass k (suc j) e le h =
@@ -47,7 +46,7 @@ module _ (b : List ℕ) where
         rest.1,
       )
 
-  pass_whole : first_refusal (read_looks b) ≡ Pass → Collection b
+  pass_whole : first_refusal (read_looks b) ≡ Ok tt → Collection b
   unfolding read_looks start
   pass_whole h =
       let p = (then_pass (refuse_if (no_byte b) (EndsEarly 0)) _).0 h in
@@ -79,7 +78,7 @@ module _ (b : List ℕ) where
 -- ---- and a collection passes
 
 module _ (b : List ℕ) (w : Collection b) where
-  rest_pass : (k j : ℕ) → k + j ≡ trees b → first_refusal (looks_from b k j) ≡ Pass
+  rest_pass : (k j : ℕ) → k + j ≡ trees b → first_refusal (looks_from b k j) ≡ Ok tt
   unfolding looks_from
   rest_pass k zero e = let q : k ≡ trees b = omega arith in end_good b k (start b k) refl (omega (arith, w.end, ap (start b) q))
   rest_pass k (suc j) e =
@@ -92,7 +91,7 @@ module _ (b : List ℕ) (w : Collection b) where
         (no_fault k (species b) (nodes (body_at b k))).1 (w.good k l),
       ) (rest_pass (suc k) j (omega arith))
 
-  whole_pass : first_refusal (read_looks b) ≡ Pass
+  whole_pass : first_refusal (read_looks b) ≡ Ok tt
   unfolding read_looks
   whole_pass =
       let i = w.some in
@@ -116,19 +115,19 @@ module _ (b : List ℕ) (w : Collection b) where
 
 -- ---- what an answer says
 
-done_pass : (k : Look) (c w : Counts) → answered Done Refused k w ≡ Done c → (k ≡ Pass) × (c ≡ w)
-done_pass Pass c w e = let z : w ≡ c = cc in (refl, sym z)
-done_pass (Refuse x) c w e = let z : ◌≡◌ {A = ℕ} 0 1 = cc in absurd (omega arith)
+done_pass : (k : Look) (c w : Counts) → answered Ok Err k w ≡ Ok c → (k ≡ Ok tt) × (c ≡ w)
+done_pass (Ok _) c w e = let z : w ≡ c = cc in (refl, sym z)
+done_pass (Err x) c w e = let z : ◌≡◌ {A = ℕ} 0 1 = cc in absurd (omega arith)
 
-pub read_refused : (b : List ℕ) (x : Refusal) → read_answer b ≡ Refused x → first_refusal (read_looks b) ≡ Refuse x
+pub read_refused : (b : List ℕ) (x : Refusal) → read_answer b ≡ Err x → first_refusal (read_looks b) ≡ Err x
 read_refused b x e = go (first_refusal (read_looks b)) e
   where
-    go : (k : Look) → answered Done Refused k (counts_of b) ≡ Refused x → k ≡ Refuse x
-    go Pass e = let z : ◌≡◌ {A = ℕ} 0 1 = cc in absurd (omega arith)
-    go (Refuse y) e = let z : y ≡ x = cc in ap Refuse z
+    go : (k : Look) → answered Ok Err k (counts_of b) ≡ Err x → k ≡ Err x
+    go (Ok _) e = let z : ◌≡◌ {A = ℕ} 0 1 = cc in absurd (omega arith)
+    go (Err y) e = let z : y ≡ x = cc in ap Err z
 
-pub read_done : (b : List ℕ) (c : Counts) → read_answer b ≡ Done c → (c ≡ counts_of b) × Collection b
+pub read_done : (b : List ℕ) (c : Counts) → read_answer b ≡ Ok c → (c ≡ counts_of b) × Collection b
 read_done b c e = let p = done_pass (first_refusal (read_looks b)) c (counts_of b) e in (p.1, pass_whole b p.0)
 
-pub read_pass : (b : List ℕ) → (first_refusal (read_looks b) ≡ Pass) ↔ Collection b
+pub read_pass : (b : List ℕ) → (first_refusal (read_looks b) ≡ Ok tt) ↔ Collection b
 read_pass b = (pass_whole b, whole_pass b)

@@ -3,16 +3,14 @@
 use Rattle.std.specs.Prelude.{List, [], ◌∷◌, ◌++◌, ℕ, zero, suc, ◌-◌, ltb, length}
 use Rattle.refusals.specs.Told.{Told, Value, occurring_set, species_count, told, tree_count, value}
 use Rattle.answers.specs.Looks.{answered, first_refusal, look_length, look_rules, refuse_if}
-use Rattle.refusals.specs.Refusals.{refusal_told}
-use Rattle.answers.specs.declared.Look.{Look}
+use Rattle.refusals.specs.Refusals.{told_by}
+use Rattle.answers.specs.Looks.{Look}
 use Rattle.refusals.specs.declared.Refusal.TheVariants.{BadCounts, BadVersion, EndsEarly, LeftOver}
-use Rattle.collections.specs.declared.Answer.{Answer}
-use Rattle.collections.specs.declared.Answer.TheVariants.{Done, Refused}
 use Rattle.collections.specs.declared.Counts.{Counts}
-use Rattle.collections.specs.declared.Next.{Next}
-use Rattle.collections.specs.declared.Next.TheVariants.{At, Stop}
 use Rattle.collections.specs.Occurs.{occurring}
 use Rattle.collections.specs.Layout.{body_at, length_at, no_byte, short_body, short_header, short_length, species, start, trees, wrong_counts, wrong_version}
+use Rattle.std.specs.Prelude.{Ok, Err, Result}
+use Rattle.refusals.specs.declared.Refusal.{Refusal}
 
 module _ (b : List ℕ) where
   -- "for each tree, under two length bytes 3, 5, body cut 3, 6"
@@ -41,19 +39,18 @@ module _ (b : List ℕ) where
   abbrev pub counts_of : Counts
   counts_of = record { n = species b; trees = trees b; set = occurring b }
 
-  abbrev pub read_answer : Answer
-  read_answer = answered Done Refused (first_refusal read_looks) counts_of
+  abbrev pub read_answer : Result Counts Refusal
+  read_answer = answered Ok Err (first_refusal read_looks) counts_of
 
   -- the answer of j trees from tree k on; and after tree k alone, where the next one starts
-  abbrev pub answer_from : ℕ → ℕ → Answer
-  answer_from k j = answered Done Refused (first_refusal (looks_from k j)) counts_of
+  abbrev pub answer_from : ℕ → ℕ → Result Counts Refusal
+  answer_from k j = answered Ok Err (first_refusal (looks_from k j)) counts_of
 
-  abbrev pub next_of : ℕ → Next
-  next_of k = answered At Stop (first_refusal (tree_looks k)) (start b (suc k))
+  abbrev pub next_of : ℕ → Result ℕ Refusal
+  next_of k = answered Ok Err (first_refusal (tree_looks k)) (start b (suc k))
 
 abbrev pub count_values : Counts → List Value
 count_values c = value species_count c.n ∷ value tree_count c.trees ∷ value occurring_set c.set ∷ []
 
-abbrev pub read_told : Answer → Told
-read_told (Done c) = told 0 (count_values c)
-read_told (Refused x) = refusal_told x
+abbrev pub read_told : Result Counts Refusal → Told
+read_told = told_by (λ c. told 0 (count_values c))

@@ -1,81 +1,73 @@
 // A paper's tree cut to a set of species, as Newick text in the order of the paper's own line.
-#![tactic(auto)]
+#![tactic(auto, using(writing::proofs::Writing::writes))]
 
-ghost use Rattle.std.specs.Prelude.{[], ◌∷◌, ◌++◌, ◌<◌, ◌≤◌};
+ghost use Rattle.std.specs.Prelude.{◌≡◌, [], ◌∷◌, ◌++◌, ◌<◌, ◌≤◌};
 ghost use Rattle.sets.specs.Sets.{has};
 ghost use Rattle.trees.specs.Cut.{Touches};
 ghost use Rattle.trees.specs.Trees.{house};
 ghost use Rattle.bodies.specs.Nodes.{nodes, most_nodes, Good};
 ghost use Rattle.bodies.specs.Draws.{subtree, tree_of};
-ghost use Rattle.groups.specs.Groups.{Groups};
-ghost use Rattle.writing.specs.Writes.{Writes};
+ghost use Rattle.writing.specs.Texts.{wrote};
 ghost use Rattle.cutting.specs.Descends.{Descends};
 ghost use Rattle.cutting.specs.Texts.{cut_text};
 
+use rendering::LONGEST;
+use writing::Text;
+
 // From node i down to the node that has all species of `set` under i, and no child that has them all.
-fn descend(body: &[u8], groups: &[u64; bodies::MOST_NODES], i: usize, set: u64) -> usize
-    requires good { Good 64 (nodes body.now) }
-    requires groups { Groups (nodes body.now) groups.now }
-    requires i_bound { (i < (nodes body.now).count) × ((nodes body.now).count ≤ most_nodes) }
-    ensures { Descends (nodes body.now) (has set) i result (nodes body.now).count }
+fn descend(tree: groups::Grouped, i: usize, set: u64) -> usize
+    requires { i < (nodes tree.body.now).count }
+    ensures { Descends (nodes tree.entry.body.now) (has set) i result (nodes tree.entry.body.now).count }
 {
-    let own = sets::meet(groups[i], set);
-    let count = bodies::node_count(body);
+    let own = sets::meet(tree.groups[i], set);
     let mut top = i;
-    let mut j = i + 1;
-    while j < count {
-        if bodies::parent(body, j) as usize == top && sets::subset(own, groups[j]) {
+    for j in i + 1..bodies::node_count(tree.body) {
+        if bodies::parent(tree.body, j) as usize == top && sets::subset(own, tree.groups[j]) {
             top = j;
         }
-        j += 1;
     }
     top
 }
 
-// Writes the text of the tree under node i, in house order, cut to the species of `set`, from `at` on. Returns where the next byte goes.
-fn put(
-    body: &[u8],
-    groups: &[u64; bodies::MOST_NODES],
-    i: usize,
-    set: u64,
-    out: &mut [u8],
-    at: usize,
-) -> usize
-    requires good { Good 64 (nodes body.now) }
-    requires groups { Groups (nodes body.now) groups.now }
-    requires i_bound { (i < (nodes body.now).count) × ((nodes body.now).count ≤ most_nodes) }
-    requires touches { Touches (has set) (subtree (nodes body.now) i) }
-    ensures { Writes out.old at (cut_text (has set) (house (subtree (nodes body.now) i))) out.new result }
+// Writes the text of the tree under node i, in house order, cut to the species of `set`.
+fn put(tree: groups::Grouped, i: usize, set: u64, draft: &mut Text<LONGEST>)
+    requires i_bound { i < (nodes tree.body.now).count }
+    requires touches { Touches (has set) (subtree (nodes tree.body.now) i) }
+    ensures { draft.new ≡ wrote LONGEST draft.old (cut_text (has set) (house (subtree (nodes tree.entry.body.now) i))) }
 {
-    let top = descend(body, groups, i, set);
-    let s = bodies::species(body, top);
+    let top = descend(tree, i, set);
+    let s = bodies::species(tree.body, top);
     if s != bodies::NONE {
-        return writing::put_decimal(out, at, s as u64);
+        draft.decimal(u64::from(s));
+        return;
     }
-    let mut next = at;
     let mut mark = b'(';
-    let mut rest = groups[top];
-    while rest != 0 {
-        let c = children::child_with(body, groups, top, sets::lowest(rest));
-        if sets::meet(groups[c], set) != 0 {
-            let begun = writing::put(out, next, mark);
-            next = put(body, groups, c, set, out, begun);
+    for c in children::in_order(tree, top) {
+        if sets::meet(tree.groups[c], set) != 0 {
+            draft.push(mark);
+            put(tree, c, set, draft);
             mark = b',';
         }
-        rest = sets::minus(rest, groups[c]);
     }
-    writing::put(out, next, b')')
+    draft.push(b')');
 }
 
-// Writes a paper's tree cut to the species of `set`, of which it has one or more, with a semicolon last. Returns where the next byte goes.
-pub fn put_cut(body: &[u8], set: u64, out: &mut [u8], at: usize) -> usize
+// Writes a paper's tree cut to the species of `set`, of which it has one or more, with a semicolon last. It is written into a draft first: a call of itself is
+// proved for one size of room only.
+pub fn put_cut<const ROOM: usize>(body: &[u8], set: u64, out: &mut Text<ROOM>)
     requires good { Good 64 (nodes body.now) }
     requires count_nonzero { (0 < (nodes body.now).count) × ((nodes body.now).count ≤ most_nodes) }
     requires touches { Touches (has set) (tree_of body.now) }
-    ensures { Writes out.old at (cut_text (has set) (house (tree_of body.now)) ++ (59 ∷ [])) out.new result }
+    ensures { out.new ≡ wrote ROOM out.old (cut_text (has set) (house (tree_of body.now)) ++ (59 ∷ [])) }
 {
     let mut groups = [0; bodies::MOST_NODES];
     groups::groups(body, &mut groups);
-    let next = put(body, &groups, 0, set, out, at);
-    writing::put(out, next, b';')
+    let tree = groups::Grouped {
+        body,
+        groups: &groups,
+    };
+    let mut draft = Text::new();
+    put(tree, 0, set, &mut draft);
+    draft.push(b';');
+    out.word(draft.as_slice());
 }

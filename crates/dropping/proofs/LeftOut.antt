@@ -1,6 +1,6 @@
 -- Nodes written one by one, without one of them. Assumes nothing.
 use mathlib.Core.List.{List}
-use mathlib.Core.Path.{◌∙◌, ◌≡◌, ap, sym}
+use mathlib.Core.Path.{◌∙◌, ◌≡◌, ap}
 use Prim.Native.Nat.{◌*◌, ◌+◌, ◌-◌, ◌<◌, ◌≤◌, suc, ℕ}
 use native.Mathlib.Decide.{ℕ_discrete}
 use native.Mathlib.Omega.{arith}
@@ -9,7 +9,6 @@ use lib.Seq.{length-sets}
 use Rattle.bodies.proofs.Puts.{front_count, front_parent, front-species, other_parent, other_species, put_parent, put-species, put_under}
 use Rattle.bodies.specs.Nodes.{Nodes, body_length, longest, most_nodes, node_at', nodes, none, under_bytes, width}
 use Rattle.bodies.specs.declared.Node.{Node}
-use Rattle.dropping.proofs.Numbering.{old_low}
 use Rattle.dropping.specs.Without.{Without, new_parent, old_number}
 
 -- the first nodes of o are those of v without node k, up to node at
@@ -21,19 +20,6 @@ pub record LeftOut (v : Nodes) (k : ℕ) (o : List ℕ) (at : ℕ) : Type 0 wher
   pub species : (i : ℕ) → i < at → (nodes o).species i ≡ v.species (old_number k i)
 
 module _ (v : Nodes) (k : ℕ) where
-  pub left-start : 0 < k → (o o' : List ℕ) (u : Node) → length o ≡ longest → u ≡ node_at' v 0 → o' ≡ put_under o 0 none u → LeftOut v k o' 1
-  left-start pos o o' u l e put =
-      let fits : body_length (suc 0) ≤ length o = omega arith in
-      rw put (record {
-        size = length-sets o (width * 0) (under_bytes none u) ∙ l;
-        some = omega arith;
-        root = put_parent o 0 none u fits;
-        parent = λ i p h. absurd (omega arith);
-        species = λ i h.
-            let z : i ≡ 0 = omega arith in
-            rw z (put-species o 0 none u fits ∙ ap (λ (w : Node). w.species) e ∙ ap v.species (sym (old_low k 0 pos)));
-      })
-
   pub left_more : (o o' : List ℕ) (at p : ℕ) (u : Node) → LeftOut v k o at → at < most_nodes → p ≡ new_parent k (v.parent k) (v.parent (old_number k at)) → u ≡ node_at' v (old_number k at)
       → o' ≡ put_under o at p u → LeftOut v k o' (at + 1)
   left_more o o' at p u d h ep eu put =

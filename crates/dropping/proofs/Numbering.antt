@@ -61,15 +61,6 @@ module _ (k : ℕ) where
   pub old_low : (i : ℕ) → i < k → old_number k i ≡ i
   old_low i l = ⊎_elim (λ p. p.1) (λ p. absurd (omega (arith, p.0))) (old_is i)
 
-  pub old_high : (i : ℕ) → k ≤ i → old_number k i ≡ suc i
-  old_high i l = ⊎_elim (λ p. absurd (omega (arith, p.0))) (λ p. p.1) (old_is i)
-
-  pub new_low : (j : ℕ) → j < k → new_number k j ≡ j
-  new_low j l = ⊎_elim (λ p. p.1) (λ p. absurd (omega (arith, p.0))) (new_is j)
-
-  pub new_high : (j : ℕ) → k ≤ j → new_number k j ≡ j - 1
-  new_high j l = ⊎_elim (λ p. absurd (omega (arith, p.0))) (λ p. p.1) (new_is j)
-
   pub parent_gone : (a p : ℕ) → p ≡ k → new_parent k a p ≡ a
   parent_gone a p e = rw (eq-eqb p k e) refl
 

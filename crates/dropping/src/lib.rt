@@ -18,7 +18,7 @@ fn old_number(i: usize, k: usize) -> usize
 fn new_parent(p: u8, above: u8, k: usize) -> u8
     ensures { result ≡ new_parent k above p }
 {
-    let q = bodies::wide(p);
+    let q = usize::from(p);
     if q == k {
         return above;
     }
@@ -37,11 +37,9 @@ fn leave_out(body: &[u8], k: usize, out: &mut [u8; bodies::LONGEST])
     let count = bodies::node_count(body);
     let above = bodies::parent(body, k);
     bodies::put_under(out, 0, bodies::NONE, bodies::node_at(body, 0));
-    let mut i = 1;
-    while i + 1 < count {
+    for i in 1..count - 1 {
         let v = bodies::node_at(body, old_number(i, k));
         bodies::put_under(out, i, new_parent(v.parent, above, k), v);
-        i += 1;
     }
 }
 

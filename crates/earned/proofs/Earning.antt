@@ -1,15 +1,15 @@
 -- Each group but the root's is earned exactly when the group of each node with children is joined beside that of each sibling node; and what the
 -- numbers of the groups say. Assumes nothing.
-use mathlib.Core.Bool.{Bool, So, false≢true, true}
+use mathlib.Core.Bool.{Bool, So, false, false≢true, not, true}
 use mathlib.Core.List.{List, [], ◌∷◌}
 use mathlib.Core.Logic.{◌↔◌, ◌≢◌}
 use mathlib.Core.Path.{◌∙◌, ◌≡◌, ap, refl, subst, sym}
 use Prim.Native.Nat.{◌<◌, ℕ}
 use native.Mathlib.Omega.{arith}
-use borrow.Author.Tests.{eq-eqb, eqb-true}
-use lib.Dec.{eqb}
+use Rattle.std.proofs.Common.{None, Option, Some}
+use Rattle.std.specs.Prelude.{is_some}
+use borrow.Author.Tests.{eqb-true}
 use lib.ListN.{get_or, length}
-use Rattle.sets.proofs.Bools.{by_order}
 use Rattle.sets.proofs.Tests.{has_empty, number_is}
 use Rattle.sets.specs.Sets.{has}
 use Rattle.sets.specs.Species.{Species, either}
@@ -23,7 +23,7 @@ use Rattle.bodies.proofs.Under.{subtree_leaf}
 use Rattle.bodies.specs.Draws.{subtree}
 use Rattle.groups.specs.Groups.{Groups}
 use Rattle.bodies.specs.Nodes.{Good, Nodes, children, none}
-use Rattle.earned.specs.Siblings.{Beside, FirstUnearnedNode}
+use Rattle.earned.specs.Siblings.{Beside, FirstUnearnedNode, UnearnedNode}
 
 -- one species is always joined
 one_joins : (E : Triplets) (S : Species) (x : ℕ) → Joins E S (under (leaf x))
@@ -71,11 +71,14 @@ module _ (v : Nodes) (g : Good 64 v) where
   )
 
   -- there is no first node whose group is not earned exactly when each is
-  pub first_earned : (E : Triplets) → 0 < v.count → (r : ℕ) → FirstUnearnedNode E v r → (eqb r 0 ≡ true) ↔ Earned E (subtree v 0)
-  first_earned E h r f = (
-    λ e. (earned_nodes E h).1 (λ i p q. f.before i p q (λ z. absurd (omega (arith, eqb-true r 0 e)))),
-    λ er. by_order r 0
-        (λ l. absurd (omega arith))
-        (λ e. eq-eqb r 0 e)
-        (λ p. let a = f.apart p in absurd (a.split ((earned_nodes E h).0 er r p f.within a.sibling a.later a.within a.other a.parent))),
-  )
+  pub none_earned : (E : Triplets) → 0 < v.count → FirstUnearnedNode E v None → Earned E (subtree v 0)
+  none_earned E h f = (earned_nodes E h).1 f
+
+  pub some_unearned : (E : Triplets) → 0 < v.count → (r : ℕ) → UnearnedNode E v r → Earned E (subtree v 0) → ⊥
+  some_unearned E h r f er = let a = f.apart in a.split ((earned_nodes E h).0 er r f.later f.within a.sibling a.later a.within a.other a.parent)
+
+  pub first_earned : (E : Triplets) → 0 < v.count → (r : Option ℕ) (b : Bool) → is_some r ≡ not b → FirstUnearnedNode E v r → (b ≡ true) ↔ Earned E (subtree v 0)
+  first_earned E h None true e f = (λ _. none_earned E h f, λ _. refl)
+  first_earned E h None false e f = absurd (false≢true e)
+  first_earned E h (Some r) true e f = absurd (false≢true (sym e))
+  first_earned E h (Some r) false e f = (λ q. absurd (false≢true q), λ er. absurd (some_unearned E h r f er))

@@ -1,5 +1,5 @@
 -- The groups of sibling nodes, as the code goes from node to node.
-use Rattle.std.specs.Prelude.{Bool, false, true, ◌≢◌, ◌≡◌, ℕ, ◌<◌}
+use Rattle.std.specs.Prelude.{Bool, MatchOption, Option, false, true, ◌≢◌, ◌≡◌, ℕ, ◌<◌}
 use Rattle.trees.specs.Check.{JoinedBeside}
 use Rattle.trees.specs.Triplets.{Triplets}
 use Rattle.bodies.specs.Draws.{subtree}
@@ -23,9 +23,14 @@ pub record SaysBeside (E : Triplets) (v : Nodes) (i : ℕ) (r : Bool) : Type 0 w
   pub joined : r ≡ true → (j : ℕ) → Beside E v i j
   pub apart : r ≡ false → NotJoined E v i
 
--- r is the first node but the root whose group is not joined beside some sibling's; 0 where there is none
-pub record FirstUnearnedNode (E : Triplets) (v : Nodes) (r : ℕ) : Type 0 where
+-- r is the first node but the root whose group is not joined beside some sibling's
+pub record UnearnedNode (E : Triplets) (v : Nodes) (r : ℕ) : Type 0 where
+  pub later : 0 < r
   pub within : r < v.count
-  pub before : (i : ℕ) → 0 < i → i < v.count → (0 < r → i < r) → (j : ℕ) → Beside E v i j
-  pub inner : 0 < r → v.species r ≡ none
-  pub apart : 0 < r → NotJoined E v r
+  pub before : (i : ℕ) → 0 < i → i < r → (j : ℕ) → Beside E v i j
+  pub inner : v.species r ≡ none
+  pub apart : NotJoined E v r
+
+-- r is that node; none where the group of each node but the root is joined beside every sibling's
+abbrev pub FirstUnearnedNode : Triplets → Nodes → Option ℕ → Type 0
+FirstUnearnedNode E v r = MatchOption r ((i : ℕ) → 0 < i → i < v.count → (j : ℕ) → Beside E v i j) (UnearnedNode E v)

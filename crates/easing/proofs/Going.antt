@@ -16,11 +16,10 @@ use Rattle.trees.specs.Check.{R}
 use Rattle.trees.specs.Loosen.{Loosened, drop, loosen_in, loosened, step, unearned}
 use Rattle.trees.specs.Trees.{Tree, in_house_order, under, well_formed}
 use Rattle.trees.specs.Triplets.{Proper, Triplets}
-use Rattle.bodies.proofs.Puts.{front-species}
 use Rattle.bodies.specs.Draws.{body_of, node_count}
-use Rattle.bodies.specs.Nodes.{longest, nodes, none}
+use Rattle.bodies.specs.Nodes.{longest, none}
 use Rattle.dropping.specs.Drafts.{HouseDraft, NodeDropped, draft_tree, group_at}
-use Rattle.easing.specs.Turns.{FindsUnearned, Turned}
+use Rattle.easing.specs.Turns.{Turned, UnearnedGroup}
 use Rattle.easing.specs.Eases.{numbers}
 use Rattle.easing.specs.declared.Unearned.{Unearned}
 
@@ -65,13 +64,14 @@ module _ (E : Triplets) (pr : Proper E) (n : ℕ) where
     stores = refl;
   }
 
-  module _ {L : Loosened} {list₀ draft list : List ℕ} {m₀ m gone : ℕ} (g : Going L m₀ list₀ draft m list gone) (x : Unearned) (q : FindsUnearned E n (draft_tree m draft) x) where
+  module _ {L : Loosened} {list₀ draft list : List ℕ} {m₀ m gone : ℕ} (g : Going L m₀ list₀ draft m list gone) where
     abbrev T : Tree
     T = draft_tree m draft
 
-    pub going_end : x.node ≡ 0 → Turned L list₀ (record { nodes = m; dropped = gone }) draft list
-    going_end e =
-        let r = rest-none T g.house.formed g.house.below (q.all e) in
+    -- each group is earned
+    pub going_end : unearned (R E T) n T ≡ [] → Turned L list₀ (record { nodes = m; dropped = gone }) draft list
+    going_end none =
+        let r = rest-none T g.house.formed g.house.below none in
         let f : T ≡ L.final = sym (ap (λ (l : Loosened). l.final) r) ∙ g.final in
         let d : length (rest T).dropped ≡ 0 = ap (λ (l : Loosened). length l.dropped) r in
         let z : gone ≡ length L.dropped = omega (arith, d, g.count) in
@@ -81,21 +81,18 @@ module _ (E : Triplets) (pr : Proper E) (n : ℕ) where
           stored = sym (ap (λ (l : Loosened). sets list gone (numbers l.dropped)) r) ∙ g.stores;
         }
 
-    module _ (p : 0 < x.node) where
-      -- an inner node of the draft was found
-      pub going_inner : x.node < m → (nodes draft).species x.node ≡ none
-      going_inner l = sym (front-species draft m x.node l) ∙ ap (λ (b : List ℕ). (nodes b).species x.node) g.house.body ∙ q.inner p
-
+    -- one is not
+    module _ (x : Unearned) (q : UnearnedGroup E n T x) where
       -- there is a place for its group
       pub going_place : gone < 62
       going_place =
-          let (l, e) = q.first p in
+          let (l, e) = q.first in
           let r = ap (λ (l : Loosened). length l.dropped) (rest_some T g.house.formed g.house.below (group_at T x.node) l e) in
           omega (arith, r, g.count, g.few)
 
       pub going_more : (draft' : List ℕ) → NodeDropped n m x.node draft draft' → (m' : ℕ) → m' + 1 ≡ m → Going L m₀ list₀ draft' m' (set list gone x.group) (gone + 1)
       going_more draft' d m' em =
-          let (l, e) = q.first p in
+          let (l, e) = q.first in
           let G = group_at T x.node in
           let r = rest_some T g.house.formed g.house.below G l e in
           let t : draft_tree m' draft' ≡ drop n G T = d.tree m' em in

@@ -1,3 +1,2 @@
 -- The laws of entering.
-pub mod Gathering
-pub mod Answers
+pub mod Entering

@@ -1,9 +1,11 @@
 // Entering a list of triplets into a table: refusals 2, 7 and 13, in that order, before any byte is written.
 #![tactic(auto)]
 
-ghost use Rattle.std.specs.Prelude.{◌≡◌, length};
-ghost use Rattle.entering.specs.Enters.{decided, Enters};
-ghost use Rattle.entering.specs.Passes.{cleared};
+ghost use Rattle.std.specs.Prelude.{map};
+ghost use Rattle.entering.specs.Enters.{Enters};
+
+use records::Record;
+use refusals::Refusal;
 
 // What is returned with 0: of the species, the set that occurs.
 #[derive(Clone, Copy)]
@@ -12,44 +14,26 @@ pub struct Entry {
     pub set: u64,
 }
 
-#[derive(Clone, Copy)]
-pub enum Answer {
-    Done(Entry),
-    Refused(refusals::Refusal),
-}
-
-// The answer, where k is the first bad one of m records. Where nothing is refused, the table is cleared.
-pub fn decide(n: usize, m: usize, k: usize, table: &mut [u8]) -> Answer
-    ensures { (result ≡ decided n m k (length table.old)) × (table.new ≡ cleared result table.old) }
+// Enters what is read as records into an empty table: whatever the table held is gone. All is looked at before any byte is written, and a refusal leaves
+// every byte as it was.
+pub fn enter_all<R: Record>(n: usize, records: &[R], table: &mut [u8]) -> Result<Entry, Refusal>
+    ensures { Enters n (map R.spelled records.now) table.old result table.new }
 {
-    let look = answers::look_count(n);
-    match look {
-        answers::Look::Pass => {}
-        answers::Look::Refuse(x) => {
-            return Answer::Refused(x);
-        }
-    }
+    answers::look_count(n)?;
     if !tables::fits(table, n) {
-        return Answer::Refused(refusals::Refusal::BadTable);
+        return Err(Refusal::BadTable);
     }
-    if k < m {
-        return Answer::Refused(refusals::Refusal::BadRecord(k));
+    if let Some(k) = records::first_bad(n, records) {
+        return Err(Refusal::BadRecord(k));
     }
     tables::clear(table);
-    Answer::Done(Entry { n: n, set: 0 })
+    let set = records::fill(n, 0, records, table);
+    Ok(Entry { n, set })
 }
 
-// Enters the records into an empty table: whatever the table held is gone. A refusal leaves every byte as it was.
-pub fn enter(n: usize, records: &[[u8; 3]], table: &mut [u8]) -> Answer
+// Enters records of three numbers.
+pub fn enter(n: usize, records: &[[u8; 3]], table: &mut [u8]) -> Result<Entry, Refusal>
     ensures { Enters n records.now table.old result table.new }
 {
-    let k = records::first_bad(n, records);
-    let r = decide(n, records.len(), k, table);
-    match r {
-        Answer::Done(e) => {
-            let set = records::fill(e.n, e.set, records, table);
-            Answer::Done(Entry { n: e.n, set: set })
-        }
-        Answer::Refused(y) => Answer::Refused(y),
-    }
+    enter_all(n, records, table)
 }

@@ -22,7 +22,7 @@ ghost use Rattle.exports.specs.Asked.{triple_answer, triple_species};
 pub fn koodhaxil_read(b: &[u8], values: &mut [usize]) -> usize
     ensures { Handed (read_told (read_answer b.now)) values.old result values.new }
 {
-    laying::lay(replies::read(collections::read(b)), values)
+    laying::lay(replies::answer(collections::read(b)), values)
 }
 
 // Lists a collection into the table t. A refusal leaves every byte of t as it was.
@@ -31,7 +31,7 @@ pub fn koodhaxil_list(b: &[u8], t: &mut [u8], values: &mut [usize]) -> usize
     ensures t_after { t.new ≡ list_after b.now t.old }
 {
     let a = listing::list(b, t);
-    laying::lay(replies::read(a), values)
+    laying::lay(replies::answer(a), values)
 }
 
 // Enters triplets into the table t. A refusal leaves every byte of t as it was.
@@ -45,7 +45,7 @@ pub fn koodhaxil_enter(
     ensures t_after { t.new ≡ enter_after n (map spelled records.now) t.old }
 {
     let a = triplets::enter(n, records, t);
-    laying::lay(replies::enter(a), values)
+    laying::lay(replies::answer(a), values)
 }
 
 // Puts a tree in house order, to the front of the room. A refusal leaves every byte of the room as it was.
@@ -54,7 +54,7 @@ pub fn koodhaxil_order(n: usize, body: &[u8], room: &mut [u8], values: &mut [usi
     ensures room_after { room.new ≡ order_after n body.now room.old }
 {
     let a = ordering::order(n, body, room);
-    laying::lay(replies::order(a), values)
+    laying::lay(replies::answer(a), values)
 }
 
 // Builds the tree of a set of species, of the table t, to the front of the room. A refusal leaves every byte of the room as it was.
@@ -79,7 +79,7 @@ pub fn koodhaxil_veto(n: usize, set: u64, t: &[u8], room: &mut [u8], values: &mu
 pub fn koodhaxil_check(n: usize, t: &[u8], body: &[u8], values: &mut [usize]) -> usize
     ensures { Handed (check_told (check_answer n t.now body.now)) values.old result values.new }
 {
-    laying::lay(replies::check(checking::check(n, t, body)), values)
+    laying::lay(replies::answer(checking::check(n, t, body)), values)
 }
 
 // Reads a Newick text into a body, at the front of the room. A refusal leaves every byte of the room as it was.
@@ -88,7 +88,7 @@ pub fn koodhaxil_parse(n: usize, text: &[u8], room: &mut [u8], values: &mut [usi
     ensures room_after { room.new ≡ parse_after n text.now room.old }
 {
     let a = parsing::parse(n, text, room);
-    laying::lay(replies::parse(a), values)
+    laying::lay(replies::answer(a), values)
 }
 
 // Writes a tree as Newick text to the front of the room. A refusal leaves every byte of the room as it was.
@@ -97,7 +97,7 @@ pub fn koodhaxil_render(n: usize, body: &[u8], room: &mut [u8], values: &mut [us
     ensures room_after { room.new ≡ render_after n body.now room.old }
 {
     let a = rendering::render(n, body, room);
-    laying::lay(replies::render(a), values)
+    laying::lay(replies::answer(a), values)
 }
 
 // Loosens the tree of a body by the table t: the final tree to the front of the room, and the dropped sets to the front of the list. A refusal leaves both as
@@ -114,7 +114,7 @@ pub fn koodhaxil_loosen(
     ensures list_after { lent room.new list.new ≡ loosen_after n t.now body.now (lent room.old list.old) }
 {
     let a = loosening::loosen(n, t, body, room, list);
-    laying::lay(replies::loosen(a), values)
+    laying::lay(replies::answer(a), values)
 }
 
 // Is there a triple with this index? It is a question, so that its answer is none of document 01's numbers: 1 for yes, with the three species laid into
@@ -123,14 +123,13 @@ pub fn koodhaxil_triple(index: usize, values: &mut [usize]) -> usize
     ensures value { result ≡ triple_answer (named index) }
     ensures values_after { values.new ≡ laid (triple_species (named index)) values.old }
 {
-    let t = triples::triple_at(index);
-    match t {
-        triples::Named::Known(x) => {
+    match triples::triple_at(index) {
+        Some(x) => {
             laying::put(values, 0, x.low);
             laying::put(values, 1, x.mid);
             laying::put(values, 2, x.high);
             1
         }
-        triples::Named::Beyond => 0,
+        None => 0,
     }
 }

@@ -1,5 +1,5 @@
 -- The table of pairs, entry by entry: a row, and all rows. Assumes nothing.
-use mathlib.Core.Bool.{◌&&◌, and-false, and-true, cond, false, not, and-not_self}
+use mathlib.Core.Bool.{◌&&◌, and-false, and-true, cond, false, not}
 use mathlib.Core.List.{List}
 use mathlib.Core.Logic.{◌≢◌}
 use mathlib.Core.Path.{◌∙◌, ◌≡◌, ap, refl, sym}
@@ -13,6 +13,7 @@ use lib.Seq.{get_or-set_other, get_or-set_same}
 use Rattle.sets.proofs.Digits.{minus_other, minus_same}
 use Rattle.sets.proofs.Tests.{false_has, has_empty, true_has}
 use Rattle.sets.specs.Sets.{Has, Lowest, Rest, Subset, has, minus, single}
+use Rattle.sets.specs.Walks.{Turn}
 use Rattle.groups.specs.Groups.{Stamped, cell, cells}
 
 -- ---- a walk from the lowest species up: b is the lowest of s, and r the rest
@@ -41,23 +42,20 @@ pub record Row (g a left : ℕ) (old out : List ℕ) : Type 0 where
   pub inside : Subset left g
   pub cell : (x y : ℕ) → y < 64 → cell out x y ≡ cond (eqb x a && (has g y && not (has left y))) g (cell old x y)
 
-pub row-start : (g a : ℕ) (old : List ℕ) → length old ≡ cells → Row g a g old old
-row-start g a old s = record { size = s; inside = λ i m. m; cell = λ x y h. rw (and-not_self (has g y), and-false (eqb x a)) }
-
-pub row_step : (g a left b r : ℕ) (old out : List ℕ) → a < 64 → left ≢ 0 → Lowest left b → Rest left r → Row g a left old out → Row g a r old (set out (a * 64 + b) g)
-row_step g a left b r old out ha n l k w = record {
+pub row_step : (g a left b r : ℕ) (old out : List ℕ) → a < 64 → Turn left b r → Row g a left old out → Row g a r old (set out (a * 64 + b) g)
+row_step g a left b r old out ha t w = record {
   size = length-set out (a * 64 + b) g ∙ w.size;
-  inside = rest-inside left b r l k g w.inside;
-  cell = λ x y h. go x y h (l.small n) (ℕ_discrete x a) (ℕ_discrete y b);
+  inside = rest-inside left b r t.lowest t.rest g w.inside;
+  cell = λ x y h. go x y h t.below (ℕ_discrete x a) (ℕ_discrete y b);
 }
   where
     go : (x y : ℕ) → y < 64 → b < 64 → Dec (x ≡ a) → Dec (y ≡ b) → cell (set out (a * 64 + b) g) x y ≡ cond (eqb x a && (has g y && not (has r y))) g (cell old x y)
     go x y h hb (yes p) (yes q) =
         rw (p, q)
         (get_or-set_same out (a * 64 + b) g 0 (omega (arith, w.size))
-        ∙ rw (eq-eqb a a refl, true_has g b (w.inside b (l.member n)), rest_lacks left b r l k) refl)
+        ∙ rw (eq-eqb a a refl, true_has g b (w.inside b t.member), rest_lacks left b r t.lowest t.rest) refl)
     go x y h hb (yes p) (no q) =
-        get_or-set_other out (a * 64 + b) (x * 64 + y) g 0 (λ e. omega arith) ∙ w.cell x y h ∙ rw (rest_others left b r l k y (λ e. q (sym e))) refl
+        get_or-set_other out (a * 64 + b) (x * 64 + y) g 0 (λ e. omega arith) ∙ w.cell x y h ∙ rw (rest_others left b r t.lowest t.rest y (λ e. q (sym e))) refl
     go x y h hb (no m) q = get_or-set_other out (a * 64 + b) (x * 64 + y) g 0 (λ e. m (omega arith)) ∙ w.cell x y h ∙ rw (ne_eqb x a m) refl
 
 pub row_end : (g a left : ℕ) (old out : List ℕ) → left ≡ 0 → Row g a left old out → Stamped (λ x y. eqb x a && has g y) g old out
@@ -70,22 +68,18 @@ pub record Rows (g left : ℕ) (old out : List ℕ) : Type 0 where
   pub inside : Subset left g
   pub cell : (x y : ℕ) → y < 64 → cell out x y ≡ cond ((has g x && not (has left x)) && has g y) g (cell old x y)
 
-pub rows_start : (g : ℕ) (old : List ℕ) → length old ≡ cells → Rows g g old old
-rows_start g old s = record { size = s; inside = λ i m. m; cell = λ x y h. rw (and-not_self (has g x)) }
-
-pub rows_step : (g left a r : ℕ) (old out new : List ℕ) → left ≢ 0 → Lowest left a → Rest left r
-    → Stamped (λ x y. eqb x a && has g y) g out new → Rows g left old out → Rows g r old new
-rows_step g left a r old out new n l k q w = record {
+pub rows_step : (g left a r : ℕ) (old out new : List ℕ) → Turn left a r → Stamped (λ x y. eqb x a && has g y) g out new → Rows g left old out → Rows g r old new
+rows_step g left a r old out new t q w = record {
   size = q.0;
-  inside = rest-inside left a r l k g w.inside;
+  inside = rest-inside left a r t.lowest t.rest g w.inside;
   cell = λ x y h. q.1 x y h ∙ go x y h (ℕ_discrete x a);
 }
   where
     go : (x y : ℕ) → y < 64 → Dec (x ≡ a) → cond (eqb x a && has g y) g (cell out x y) ≡ cond ((has g x && not (has r x)) && has g y) g (cell old x y)
     go x y h (yes e) =
-        let z : cell out a y ≡ cell old a y = w.cell a y h ∙ rw (true_has left a (l.member n), and-false (has g a)) refl in
-        rw (e, eq-eqb a a refl, true_has g a (w.inside a (l.member n)), rest_lacks left a r l k, z) refl
-    go x y h (no m) = rw (ne_eqb x a m, rest_others left a r l k x (λ e. m (sym e))) (w.cell x y h)
+        let z : cell out a y ≡ cell old a y = w.cell a y h ∙ rw (true_has left a t.member, and-false (has g a)) refl in
+        rw (e, eq-eqb a a refl, true_has g a (w.inside a t.member), rest_lacks left a r t.lowest t.rest, z) refl
+    go x y h (no m) = rw (ne_eqb x a m, rest_others left a r t.lowest t.rest x (λ e. m (sym e))) (w.cell x y h)
 
 pub rows_end : (g left : ℕ) (old out : List ℕ) → left ≡ 0 → Rows g left old out → Stamped (λ x y. has g x && has g y) g old out
 rows_end g left old out e w = (w.size, λ x y h. w.cell x y h ∙ rw (e, has_empty x, and-true (has g x)) refl)

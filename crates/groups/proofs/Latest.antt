@@ -3,12 +3,13 @@ use mathlib.Core.Bool.{So, ◌&&◌, cond, false, false≢true}
 use mathlib.Core.List.{List}
 use mathlib.Core.Logic.{◌⊎◌, inl, inr, ⊎_elim}
 use mathlib.Core.Path.{◌∙◌, ◌≡◌, ap, fun_ext, refl, subst, sym}
-use Prim.Native.Nat.{◌+◌, ◌<◌, ◌≤◌, ℕ}
+use Prim.Native.Nat.{◌*◌, ◌+◌, ◌<◌, ◌≤◌, ℕ}
 use native.Mathlib.Decide.{ℕ_discrete}
 use native.Mathlib.Omega.{arith}
 use borrow.Author.Tests.{not-true}
-use lib.ListN.{get_or, length}
+use lib.ListN.{length, length-replicate, replicate}
 use Rattle.sets.proofs.Bools.{and_i, and_l, and_r, bool_ext, not_e, test}
+use Rattle.sets.proofs.Zeros.{zero-at}
 use Rattle.sets.proofs.Tests.{has-number, number_empty}
 use Rattle.sets.specs.Sets.{has, number}
 use Rattle.sets.specs.Species.{Species}
@@ -100,8 +101,11 @@ pub record NodesTo (v : Nodes) (i : ℕ) (out : List ℕ) : Type 0 where
   pub size : length out ≡ cells
   pub cell : (x y : ℕ) → x < 64 → y < 64 → Latest v x y i (cell out x y)
 
-pub nodes-start : (v : Nodes) (out : List ℕ) → length out ≡ cells → ((j : ℕ) → get_or out j 0 ≡ 0) → NodesTo v 0 out
-nodes-start v out s z = record { size = s; cell = λ x y hx hy. latest_start v x y (cell out x y) (z _) }
+pub nodes-start : (v : Nodes) → NodesTo v 0 (replicate cells 0)
+nodes-start v = record {
+  size = length-replicate {A = ℕ} cells 0;
+  cell = λ x y hx hy. latest_start v x y (cell (replicate cells 0) x y) (zero-at cells (x * 64 + y));
+}
 
 pub nodes-step : (v : Nodes) (i g : ℕ) (out new : List ℕ) → g ≡ set_of (subtree v i) → NodesTo v i out → Stamped (λ x y. has g x && has g y) g out new → NodesTo v (i + 1) new
 nodes-step v i g out new e r q = record {

@@ -1,22 +1,23 @@
 -- The backward pass over the nodes: each gives its group to its parent. Assumes nothing.
 use mathlib.Core.Bool.{Bool, cond}
 use mathlib.Core.List.{List, [], ◌∷◌}
-use mathlib.Core.Path.{◌∙◌, ◌≡◌, ap, ap₂, refl, sym}
+use mathlib.Core.Path.{◌∙◌, ◌≡◌, ap, ap₂, refl, subst, sym}
 use Prim.Native.Nat.{◌+◌, ◌-◌, ◌<◌, ◌≤◌, suc, ℕ}
 use native.Mathlib.Decide.{ℕ_discrete}
 use native.Mathlib.Numerals.{add-one}
 use native.Mathlib.Omega.{arith}
 use borrow.Author.Tests.{eq-eqb, lt-ltb, ne_eqb}
 use lib.Dec.{eqb, ltb}
-use lib.ListN.{get_or, length, length-set, set}
+use lib.ListN.{get_or, length, length-replicate, length-set, replicate, set}
 use lib.Seq.{get_or-set_other, get_or-set_same}
+use Rattle.sets.proofs.Zeros.{zero-at}
 use Rattle.sets.proofs.Tests.{number_empty, number-single, number-union}
 use Rattle.sets.specs.Sets.{number, single, union}
 use Rattle.sets.specs.Species.{put}
 use Rattle.trees.specs.Trees.{Forest, under, under_f}
 use Rattle.bodies.proofs.Under.{children-after, subtree-eq, subtree_leaf}
 use Rattle.bodies.specs.Draws.{forest_of, grow, subtree}
-use Rattle.groups.specs.Groups.{Groups, set_of}
+use Rattle.groups.specs.Groups.{set_of}
 use Rattle.bodies.specs.Nodes.{Good, Nodes, children_among, children, most_nodes}
 
 -- the species of a forest as a number
@@ -53,8 +54,13 @@ pub record Pass (v : Nodes) (k i : ℕ) (out : List ℕ) : Type 0 where
   pub part : (j : ℕ) → j < i → get_or out j 0 ≡ given v k j
   pub rest : (j : ℕ) → v.count ≤ j → get_or out j 0 ≡ 0
 
-pub pass_start : (v : Nodes) (out : List ℕ) → length out ≡ most_nodes → ((j : ℕ) → get_or out j 0 ≡ 0) → Pass v v.count v.count out
-pass_start v out s z = record { size = s; done = λ j h k. absurd (omega arith); part = λ j h. z j ∙ sym (given_none v j); rest = λ j h. z j }
+pub pass_start : (v : Nodes) (i : ℕ) → i ≡ v.count → Pass v i i (replicate most_nodes 0)
+pass_start v i e = record {
+  size = length-replicate {A = ℕ} most_nodes 0;
+  done = λ j h k. absurd (omega arith);
+  part = λ j h. zero-at most_nodes j ∙ sym (rw e (given_none v j));
+  rest = λ j h. zero-at most_nodes j;
+}
 
 module _ (v : Nodes) (g : Good 64 v) (i : ℕ) (h : i < v.count) (small : v.count ≤ most_nodes) (out : List ℕ) where
   -- a leaf's group is its species, an inner node's what its children gave
@@ -101,5 +107,13 @@ module _ (v : Nodes) (g : Good 64 v) (i : ℕ) (h : i < v.count) (small : v.coun
           ∙ ap₂ union s (p.part q (omega arith) ∙ ap (given v (i + 1)) e) ∙ sym (given_own v i h) ∙ ap (given v i) (sym e))
       go j a lt (no n) = get_or-set_other out q j w 0 n ∙ p.part j a ∙ sym (given_other v i h j (λ d. n (sym d ∙ sym e)))
 
-pub pass_end : (v : Nodes) (i : ℕ) (out : List ℕ) → i ≡ 0 → Pass v i i out → Groups v out
-pass_end v i out z p = record { size = p.size; group = λ j h. p.done j (omega arith) h; rest = p.rest }
+-- the turn of node i - 1: its group, which then stands at its place
+pub pass_turn : (v : Nodes) → Good 64 v → (i : ℕ) → 0 < i → i ≤ v.count → v.count ≤ most_nodes → (out : List ℕ) (w : ℕ)
+    → w ≡ cond (ltb (v.species (i - 1)) 64) (single (v.species (i - 1))) (get_or out (i - 1) 0) → Pass v i i out
+    → (w ≡ set_of (subtree v (i - 1))) × Pass v ((i - 1) + 1) (i - 1) (set out (i - 1) w)
+pass_turn v g i pos h small out w e p =
+    let z : i ≡ (i - 1) + 1 = omega arith in
+    let q : Pass v ((i - 1) + 1) ((i - 1) + 1) out = subst (λ (x : ℕ). Pass v x x out) z p in
+    let k : i - 1 < v.count = omega arith in
+    let o : w ≡ set_of (subtree v (i - 1)) = e ∙ own_group v g (i - 1) k small out q in
+    (o, pass_own v g (i - 1) k small out w o q)

@@ -1,7 +1,7 @@
 // The groups of a good body, the smallest common group of each two species, and what its tree says of three species.
 #![tactic(auto)]
 
-ghost use Rattle.std.specs.Prelude.{◌≡◌, cond, not, ◌&&◌, ◌<◌, ◌≤◌, eqb, ltb, length, replicate};
+ghost use Rattle.std.specs.Prelude.{◌≡◌, cond, not, ◌&&◌, ◌<◌, ◌≤◌, eqb, ltb, length};
 ghost use Rattle.std.proofs.Math.Bool.{So};
 ghost use Rattle.sets.specs.Sets.{has, single};
 ghost use Rattle.trees.specs.Trees.{Tree};
@@ -23,11 +23,21 @@ pub enum Says {
 // The smallest common group of each two species: rows of 64, one for each species.
 pub const CELLS: usize = 64 * 64;
 
-// No group yet.
-fn clear(out: &mut [u64; bodies::MOST_NODES])
-    ensures { out.new ≡ replicate most_nodes 0 }
-{
-    *out = [0; bodies::MOST_NODES];
+// A good body with the group of each of its nodes.
+#[derive(Clone, Copy)]
+pub struct Grouped<'a> {
+    pub body: &'a [u8],
+    pub groups: &'a [u64; bodies::MOST_NODES],
+    pub ghost good: { Good 64 (nodes body.now) },
+    pub ghost bound: { (nodes body.now).count ≤ most_nodes },
+    pub ghost groups_are: { Groups (nodes body.now) groups.now },
+}
+
+// A tree as it is asked: the set of its species, and the smallest common group of each two of them.
+#[derive(Clone, Copy)]
+pub struct Drawing<'a> {
+    pub whole: u64,
+    pub meets: &'a [u64; CELLS],
 }
 
 // The group of a node: a leaf's species, or what an inner node's children gave.
@@ -47,24 +57,15 @@ pub fn groups(body: &[u8], out: &mut [u64; bodies::MOST_NODES])
     requires out_len { length out.old ≡ most_nodes }
     ensures { Groups (nodes body.now) out.new }
 {
-    clear(out);
-    let mut i = bodies::node_count(body);
-    while i > 0 {
-        i -= 1;
-        let group = own(bodies::wide(bodies::species(body, i)), out[i]);
+    *out = [0; bodies::MOST_NODES];
+    for i in (0..bodies::node_count(body)).rev() {
+        let group = own(usize::from(bodies::species(body, i)), out[i]);
         out[i] = group;
         if i > 0 {
-            let above = bodies::wide(bodies::parent(body, i));
+            let above = usize::from(bodies::parent(body, i));
             out[above] = sets::union(group, out[above]);
         }
     }
-}
-
-// No common group yet.
-fn clear_pairs(out: &mut [u64; CELLS])
-    ensures { out.new ≡ replicate cells 0 }
-{
-    *out = [0; CELLS];
 }
 
 // The entries of a with every species of g.
@@ -72,10 +73,8 @@ fn stamp_row(g: u64, a: usize, out: &mut [u64; CELLS])
     requires { (a < 64) × (length out.old ≡ cells) }
     ensures { Stamped (λ x y. eqb x a && has g y) g out.old out.new }
 {
-    let mut left = g;
-    while left != 0 {
-        out[a * 64 + sets::lowest(left)] = g;
-        left = sets::rest(left);
+    for b in sets::species(g) {
+        out[a * 64 + b] = g;
     }
 }
 
@@ -84,27 +83,21 @@ fn stamp(g: u64, out: &mut [u64; CELLS])
     requires { length out.old ≡ cells }
     ensures { Stamped (λ x y. has g x && has g y) g out.old out.new }
 {
-    let mut left = g;
-    while left != 0 {
-        stamp_row(g, sets::lowest(left), out);
-        left = sets::rest(left);
+    for a in sets::species(g) {
+        stamp_row(g, a, out);
     }
 }
 
 // The smallest common group of each two species: a parent stands before its children, so it is the last group that has both.
-fn pairs(body: &[u8], groups: &[u64; bodies::MOST_NODES], out: &mut [u64; CELLS])
-    requires good { Good 64 (nodes body.now) }
-    requires groups { Groups (nodes body.now) groups.now }
-    requires count_nonzero { (0 < (nodes body.now).count) × ((nodes body.now).count ≤ most_nodes) }
+fn pairs(tree: Grouped, out: &mut [u64; CELLS])
+    requires count_nonzero { 0 < (nodes tree.body.now).count }
     requires out_len { length out.old ≡ cells }
-    ensures { Meets (tree_of body.now) out.new }
+    ensures { Meets (tree_of tree.entry.body.now) out.new }
 {
-    clear_pairs(out);
-    let count = bodies::node_count(body);
-    let mut node = 0;
-    while node < count {
-        stamp(groups[node], out);
-        node += 1;
+    *out = [0; CELLS];
+    let groups = tree.groups;
+    for group in &groups[..bodies::node_count(tree.body)] {
+        stamp(*group, out);
     }
 }
 
@@ -117,7 +110,7 @@ pub fn draw(body: &[u8], each: &mut [u64; bodies::MOST_NODES], meets: &mut [u64;
     ensures drawn { Drawn (tree_of body.now) result meets.new }
 {
     groups(body, each);
-    pairs(body, each, meets);
+    pairs(Grouped { body, groups: each }, meets);
     each[0]
 }
 
@@ -129,30 +122,32 @@ fn all_in(s: u64, a: usize, b: usize, c: usize) -> bool
     sets::has(s, a) && sets::has(s, b) && sets::has(s, c)
 }
 
-// Does the smallest common group of a and b lack c?
-fn closer(meets: &[u64; CELLS], a: usize, b: usize, c: usize) -> bool
-    requires { (a < 64) × (b < 64) × (c < 64) }
-    ensures { result ≡ not (has (cell meets.now a b) c) }
-{
-    !sets::has(meets[a * 64 + b], c)
-}
+impl<'a> Drawing<'a> {
+    // Does the smallest common group of a and b lack c?
+    fn closer(self, a: usize, b: usize, c: usize) -> bool
+        requires { (a < 64) × (b < 64) × (c < 64) }
+        ensures { result ≡ not (has (cell self.entry.meets.now a b) c) }
+    {
+        !sets::has(self.meets[a * 64 + b], c)
+    }
 
-// What a tree says of three different species, from its species and the smallest common groups.
-pub fn ask(whole: u64, meets: &[u64; CELLS], a: usize, b: usize, c: usize) -> Says
-    requires { So (different a b c) × (a < 64) × (b < 64) × (c < 64) }
-    ensures { (t : Tree) → Meets t meets.now → whole ≡ set_of t → result ≡ says t a b c }
-{
-    if !all_in(whole, a, b, c) {
-        return Says::Absent;
+    // What the tree says of three different species.
+    pub fn ask(self, a: usize, b: usize, c: usize) -> Says
+        requires { So (different a b c) × (a < 64) × (b < 64) × (c < 64) }
+        ensures { (t : Tree) → Meets t self.entry.meets.now → self.entry.whole ≡ set_of t → result ≡ says t a b c }
+    {
+        if !all_in(self.whole, a, b, c) {
+            return Says::Absent;
+        }
+        if self.closer(a, b, c) {
+            return Says::AB;
+        }
+        if self.closer(a, c, b) {
+            return Says::AC;
+        }
+        if self.closer(b, c, a) {
+            return Says::BC;
+        }
+        Says::Fan
     }
-    if closer(meets, a, b, c) {
-        return Says::AB;
-    }
-    if closer(meets, a, c, b) {
-        return Says::AC;
-    }
-    if closer(meets, b, c, a) {
-        return Says::BC;
-    }
-    Says::Fan
 }

@@ -16,6 +16,7 @@ use Rattle.trees.specs.Visits.{looked, stopped}
 use Rattle.bodies.specs.Nodes.{inner_bytes, longest, most_nodes, width}
 use Rattle.splitting.specs.Split.{parts_of}
 use Rattle.growing.specs.Grows.{Stands}
+use Rattle.growing.specs.Waiting.{SameFrom}
 use Rattle.growing.proofs.Finish.{End, done, finish, node_done, node_stop, turn, turn_stop}
 use Rattle.growing.proofs.Numbered.{Part, Splits, children_of, length_total, looked_few, looked_for, node_looked, node_rule, one_total, part_at, parts_total, parts-two, total}
 
@@ -33,6 +34,14 @@ pub record Going (v : Bool) (E : Triplets) (s at : ℕ) (o₀ : List ℕ) (k m :
 -- c triples were looked at so far, for the set and its first k parts: with those that are still to come they are all
 abbrev pub Counting : Bool → Triplets → ℕ → ℕ → ℕ → Type 0
 Counting v E s k c = c + looked_for v E (drop k (parts_of E s)) ≡ looked v E 64 (has s)
+
+-- The loop has come to place i of the parts, which stand from `gap` on: so many of them are built, and those from i on still wait.
+pub record Grew (v : Bool) (E : Triplets) (s at : ℕ) (o₀ : List ℕ) (gap : ℕ) (w₀ : List ℕ) (i m : ℕ) (o w : List ℕ) (c : ℕ) : Type 0 where
+  pub built : ℕ
+  pub place : i ≡ gap + built
+  pub going : Going v E s at o₀ built m o
+  pub same : SameFrom i w₀ w
+  pub counting : Counting v E s built c
 
 -- a part that is smaller than all of them fits
 part-fits : (l : List ℕ) (k m b : ℕ) → k < length l → m + (2 * total (drop k l) + k) ≤ b + 1 → size (get_or l k 0) < total l → m + 2 * size (get_or l k 0) ≤ b

@@ -1,46 +1,13 @@
 -- The list of the sets that wait: its front is moved up, a set is read from it, and what stands behind stays. Assumes nothing.
-use mathlib.Core.List.{List, ◌∷◌, ◌++◌, append_assoc}
+use mathlib.Core.List.{List, ◌++◌, append_assoc}
 use mathlib.Core.Path.{◌∙◌, ◌≡◌, ap, ap₂, sym}
-use Prim.Native.Nat.{◌+◌, ◌<◌, ◌≤◌, ◌-◌, suc, ℕ}
-use native.Mathlib.Nat.{add-suc, add-zero}
+use Prim.Native.Nat.{◌+◌, ◌<◌, ◌≤◌, ◌-◌, ℕ}
+use native.Mathlib.Nat.{add-zero}
 use native.Mathlib.Omega.{arith}
-use lib.ListN.{get_or-append, drop, get_or, length, set, take, take-append-drop}
-use lib.Seq.{append_snoc, drop-append_seam, drop_at, drop-drop, get_or-drop, get_or-take, length-paste, length-sets, length-take-le, paste, set_at, sets, slice, slice-cons, slice_empty, take-suc}
+use lib.ListN.{get_or-append, drop, get_or, length, take}
+use lib.Seq.{drop-append_seam, drop_at, drop-drop, get_or-drop, length-paste, length-sets, length-take-le, paste, sets}
 use Rattle.bodies.proofs.Written.{written_behind, written_body}
 use Rattle.growing.specs.Waiting.{SameFrom}
-
--- ---- moving up
-
--- the sets from place k on, of the first `count`, have been moved up by `gap` places
-abbrev pub lifted : List ℕ → ℕ → ℕ → ℕ → List ℕ
-lifted w count gap k = take (gap + k) w ++ (slice k count w ++ drop (gap + count) w)
-
-module _ (w : List ℕ) (count gap : ℕ) (h : gap + count ≤ length w) where
-  pub lift_none : w ≡ lifted w count gap count
-  lift_none = sym (ap (λ (l : List ℕ). take (gap + count) w ++ (l ++ drop (gap + count) w)) (slice_empty count w) ∙ take-append-drop (gap + count) w)
-
-  pub lift_all : lifted w count gap 0 ≡ paste w gap w count
-  lift_all = ap (λ (k : ℕ). take k w ++ (take count w ++ drop (gap + count) w)) (add-zero gap) ∙ sym (append_assoc (take gap w) (take count w) (drop (gap + count) w))
-
-  module _ (k : ℕ) (below : k < count) where
-    read_down : get_or (lifted w count gap (suc k)) k 0 ≡ get_or w k 0
-    read_down = get_or-append (take (gap + suc k) w) _ 0 k (omega (arith, length-take-le (gap + suc k) w (omega arith)))
-        ∙ get_or-take (gap + suc k) w k 0 (omega arith)
-
-    lift_one : set (lifted w count gap (suc k)) (gap + k) (get_or (lifted w count gap (suc k)) k 0) ≡ lifted w count gap k
-    lift_one =
-        let ys = slice (suc k) count w ++ drop (gap + count) w in
-        let e : lifted w count gap (suc k) ≡ take (gap + k) w ++ (get_or w (gap + k) 0 ∷ ys) =
-        ap (λ (j : ℕ). take j w ++ ys) (add-suc gap k)
-        ∙ ap (λ (l : List ℕ). l ++ ys) (take-suc w (gap + k) 0 (omega arith)) ∙ append_snoc (take (gap + k) w) _ ys in
-        ap (λ (v : ℕ). set (lifted w count gap (suc k)) (gap + k) v) read_down
-        ∙ ap (λ (l : List ℕ). set l (gap + k) (get_or w k 0)) e
-        ∙ set_at (take (gap + k) w) _ ys (get_or w k 0) (gap + k) (length-take-le (gap + k) w (omega arith))
-        ∙ sym (ap (λ (l : List ℕ). take (gap + k) w ++ (l ++ drop (gap + count) w)) (slice-cons k count w 0 below (omega arith)))
-
-  -- one set more is moved
-  pub lift_next : (l : List ℕ) (j k : ℕ) → l ≡ lifted w count gap j → j ≡ suc k → j ≤ count → set l (gap + k) (get_or l k 0) ≡ lifted w count gap k
-  lift_next l j k e q h = ap (λ (v : List ℕ). set v (gap + k) (get_or v k 0)) (e ∙ ap (lifted w count gap) q) ∙ lift_one k (omega arith)
 
 -- ---- what stays
 
@@ -82,15 +49,16 @@ lined l count gap free w w' u n f h k e q =
           ∙ ap₂ ◌++◌ t (ap (λ (j : ℕ). drop j w') f ∙ s.same);
     }
 
-module _ {l : List ℕ} {gap free : ℕ} {w u : List ℕ} (r : Lined l gap free w u) (v : List ℕ) (k : ℕ) (s : SameFrom (gap + k) u v) where
+-- place i is that of part k
+module _ {l : List ℕ} {gap free : ℕ} {w u : List ℕ} (r : Lined l gap free w u) (v : List ℕ) (i k : ℕ) (at : i ≡ gap + k) (s : SameFrom i u v) where
   -- a part that waits is read
-  pub lined_part : k < length l → get_or v (gap + k) 0 ≡ get_or l k 0
+  pub lined_part : k < length l → get_or v i 0 ≡ get_or l k 0
   lined_part h =
-      first v ∙ ap (λ (x : List ℕ). get_or x 0 0) s.same ∙ sym (first u)
+      first v ∙ ap (λ (x : List ℕ). get_or x 0 0) s.same ∙ sym (first u) ∙ ap (λ (j : ℕ). get_or u j 0) at
       ∙ sym (get_or-drop gap u k 0) ∙ ap (λ (x : List ℕ). get_or x k 0) r.parts ∙ get_or-append l (drop free w) 0 k h
     where
-      first : (x : List ℕ) → get_or x (gap + k) 0 ≡ get_or (drop (gap + k) x) 0 0
-      first x = ap (λ (j : ℕ). get_or x j 0) (sym (add-zero (gap + k))) ∙ sym (get_or-drop (gap + k) x 0 0)
+      first : (x : List ℕ) → get_or x i 0 ≡ get_or (drop i x) 0 0
+      first x = ap (λ (j : ℕ). get_or x j 0) (sym (add-zero i)) ∙ sym (get_or-drop i x 0 0)
 
   -- what waits behind the parts is as it was
   pub lined_above : k ≤ length l → SameFrom free w v

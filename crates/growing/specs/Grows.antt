@@ -1,13 +1,18 @@
 -- Building one set into a room: what is written, and what is answered. Document 01, "Triplets, links, building": "To build S".
-use Rattle.std.specs.Prelude.{List, ◌≡◌, ◌*◌, ◌+◌, ◌≤◌, ℕ}
+use Rattle.std.specs.Prelude.{Bool, Err, List, Ok, Result, ◌≡◌, ◌*◌, ◌+◌, ◌≤◌, false, true, ℕ}
 use Rattle.std.proofs.lemmas.List.Edits.{sets}
 use Rattle.sets.specs.Sets.{has}
 use Rattle.trees.specs.Build.{Outcome, stop, tree}
 use Rattle.trees.specs.Trees.{Tree}
 use Rattle.bodies.specs.Draws.{bytes, node_count}
 use Rattle.bodies.specs.Nodes.{width}
-use Rattle.growing.specs.declared.Branch.{Branch}
-use Rattle.growing.specs.declared.Branch.TheVariants.{Next, Stopped}
+use Rattle.growing.specs.declared.Build.{Build}
+use Rattle.growing.specs.declared.Build.TheVariants.{Plain, Veto}
+
+-- is it the veto build?
+abbrev pub vetoes : Build → Bool
+vetoes Plain = false
+vetoes Veto = true
 
 -- R is a tree. It stands in the room from node `at` on, under the parent p, and the next node is m; the room was o before. With k species it has
 -- at most 2k - 1 nodes.
@@ -18,11 +23,7 @@ pub record Stands (R : Outcome) (k p at : ℕ) (o o' : List ℕ) (m : ℕ) : Typ
   pub body : o' ≡ sets o (width * at) (bytes drawn p at)
   pub few : m + 1 ≤ at + 2 * k
 
-abbrev pub Grows : Outcome → ℕ → ℕ → ℕ → List ℕ → List ℕ → Branch → Type 0
-Grows R k p at o o' (Next m c) = Stands R k p at o o' m
-Grows R k p at o o' (Stopped u c) = R ≡ stop (has u)
-
--- the triples looked at, whatever came of the set
-abbrev pub branch_looked : Branch → ℕ
-branch_looked (Next m c) = c
-branch_looked (Stopped u c) = c
+-- the next node's number, or the set that stops
+abbrev pub Grows : Outcome → ℕ → ℕ → ℕ → List ℕ → List ℕ → Result ℕ ℕ → Type 0
+Grows R k p at o o' (Ok m) = Stands R k p at o o' m
+Grows R k p at o o' (Err u) = R ≡ stop (has u)

@@ -1,2 +1,2 @@
--- The laws of laying down and of handing back.
+-- The laws of laying down.
 pub mod Laying

@@ -3,8 +3,7 @@ use Rattle.std.specs.Prelude.{List, [], ◌∷◌, ◌++◌, ◌≡◌, ℕ}
 use Rattle.bodies.specs.declared.Fault.{Fault}
 use Rattle.bodies.specs.declared.Fault.TheVariants.{BadParent, BadSpecies, SeenBefore, OnlyChild}
 use Rattle.refusals.specs.Told.{Told, unnamed}
-use Rattle.refusals.specs.declared.Rule.{Rule}
-use Rattle.refusals.specs.declared.Rule.TheVariants.{Broken, Kept}
+use Rattle.std.specs.Prelude.{Option, Some, None}
 
 -- which fault, 1 to 4 in document 01's order, and its own data: "bad parent (that parent), bad species (it), species seen before (the earlier
 -- node), or only child", which has none and gives 0
@@ -15,9 +14,9 @@ fault_code (SeenBefore i) = 3 ∷ i ∷ []
 fault_code OnlyChild = 4 ∷ 0 ∷ []
 
 -- the rule that is broken, where one is
-abbrev pub rule_code : Rule → List ℕ
-rule_code Kept = []
-rule_code (Broken f) = fault_code f
+abbrev pub rule_code : Option Fault → List ℕ
+rule_code None = []
+rule_code (Some f) = fault_code f
 
 -- o with the numbers laid over it from place 0 on, as far as there is room; its length is kept
 abbrev pub laid : List ℕ → List ℕ → List ℕ

@@ -1,31 +1,20 @@
 // A reply laid into lent numbers: its values one after the other, as far as there is room.
 #![tactic(auto)]
 
-ghost use Rattle.std.specs.Prelude.{◌≡◌, [], ◌∷◌, ◌++◌, set};
-ghost use Rattle.refusals.specs.Replies.{values_of};
+ghost use Rattle.std.specs.Prelude.{◌≡◌, ◌++◌, set};
 ghost use Rattle.laying.specs.Codes.{fault_code, rule_code, Lays};
 
-// A fault by two numbers.
-#[derive(Clone, Copy)]
-struct FaultCode {
-    kind: usize,
-    data: usize,
-}
+use refusals::Reply;
 
-fn fault_code(f: bodies::Fault) -> FaultCode
-    ensures { (result.kind ∷ result.data ∷ []) ≡ fault_code f }
+// A fault by two numbers: which it is, and its own data.
+fn fault_code(f: bodies::Fault) -> [usize; 2]
+    ensures { result ≡ fault_code f }
 {
     match f {
-        bodies::Fault::BadParent(p) => FaultCode {
-            kind: 1,
-            data: p as usize,
-        },
-        bodies::Fault::BadSpecies(s) => FaultCode {
-            kind: 2,
-            data: s as usize,
-        },
-        bodies::Fault::SeenBefore(i) => FaultCode { kind: 3, data: i },
-        bodies::Fault::OnlyChild => FaultCode { kind: 4, data: 0 },
+        bodies::Fault::BadParent(p) => [1, usize::from(p)],
+        bodies::Fault::BadSpecies(s) => [2, usize::from(s)],
+        bodies::Fault::SeenBefore(i) => [3, i],
+        bodies::Fault::OnlyChild => [4, 0],
     }
 }
 
@@ -39,24 +28,18 @@ pub fn put(values: &mut [usize], i: usize, x: usize)
 }
 
 // Lays down a reply: writes its values, and behind them the rule that is broken, and answers its number.
-pub fn lay(s: refusals::Reply, values: &mut [usize]) -> usize
-    ensures { Lays s.number (values_of s ++ rule_code s.rule) values.old result values.new }
+pub fn lay(s: Reply, values: &mut [usize]) -> usize
+    ensures { Lays s.number (s.values ++ rule_code s.rule) values.old result values.new }
 {
-    let count = s.count;
-    let held = s.values;
-    let mut i = 0;
-    while i < 4 && i < count {
-        put(values, i, held[i]);
-        i += 1;
+    let held = s.values.as_slice();
+    let count = held.len();
+    for (i, x) in held.iter().enumerate() {
+        put(values, i, *x);
     }
-    let rule = s.rule;
-    match rule {
-        refusals::Rule::Kept => s.number,
-        refusals::Rule::Broken(x) => {
-            let f = fault_code(x);
-            put(values, i, f.kind);
-            put(values, i + 1, f.data);
-            s.number
-        }
+    if let Some(f) = s.rule {
+        let code = fault_code(f);
+        put(values, count, code[0]);
+        put(values, count + 1, code[1]);
     }
+    s.number
 }

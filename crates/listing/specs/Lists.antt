@@ -4,11 +4,12 @@ use Rattle.std.specs.Prelude.{false, List, [], ◌∷◌, ◌++◌, ℕ, zero, s
 use Rattle.tables.specs.Filled.{Said, both_said, plain, said_by, table_for}
 use Rattle.bodies.specs.Draws.{tree_of}
 use Rattle.answers.specs.Looks.{Settled, after, answered, first_refusal, look_table}
-use Rattle.answers.specs.declared.Look.{Look}
+use Rattle.answers.specs.Looks.{Look}
 use Rattle.collections.specs.Layout.{species, trees, body_at}
 use Rattle.collections.specs.Reads.{counts_of, read_looks}
-use Rattle.collections.specs.declared.Answer.{Answer}
-use Rattle.collections.specs.declared.Answer.TheVariants.{Done, Refused}
+use Rattle.std.specs.Prelude.{Ok, Err, Result}
+use Rattle.refusals.specs.declared.Refusal.{Refusal}
+use Rattle.collections.specs.declared.Counts.{Counts}
 
 -- what the first m trees of a collection say
 unfoldable pub said_up_to : List ℕ → ℕ → Said
@@ -24,11 +25,11 @@ abbrev pub list_looks : List ℕ → ℕ → List Look
 list_looks b l = read_looks b ++ (look_table (species b) l ∷ [])
 
 -- "list: n and tree count"; request T-03: "also .. the set that occurs"; "On 0, listing and entering fill the whole table": t is the table before, r the answer, t' the table after
-abbrev pub Lists : List ℕ → List ℕ → Answer → List ℕ → Type 0
-Lists b t r t' = Settled Done Refused (list_looks b (length t)) (counts_of b) (list_of b) t r t'
+abbrev pub Lists : List ℕ → List ℕ → Result Counts Refusal → List ℕ → Type 0
+Lists b t r t' = Settled Ok Err (list_looks b (length t)) (counts_of b) (list_of b) t r t'
 
-abbrev pub list_answer : List ℕ → ℕ → Answer
-list_answer b l = answered Done Refused (first_refusal (list_looks b l)) (counts_of b)
+abbrev pub list_answer : List ℕ → ℕ → Result Counts Refusal
+list_answer b l = answered Ok Err (first_refusal (list_looks b l)) (counts_of b)
 
 abbrev pub list_after : List ℕ → List ℕ → List ℕ
 list_after b t = after (first_refusal (list_looks b (length t))) (list_of b) t

@@ -13,6 +13,9 @@ ghost use Rattle.collections.specs.Layout.{species, trees};
 ghost use Rattle.listing.specs.Lists.{list_of, Lists};
 ghost use Rattle.listing.specs.Stretch.{Stretch, says_byte};
 
+use collections::Counts;
+use refusals::Refusal;
+
 // What a tree says of a triple, as bits of that triple's byte.
 fn bits(s: groups::Says) -> u8
     ensures { result ≡ says_byte s }
@@ -27,27 +30,22 @@ fn bits(s: groups::Says) -> u8
 }
 
 // The triples with b and c, from the lowest a on.
-fn row(whole: u64, meets: &[u64; groups::CELLS], b: usize, c: usize, t: &mut [u8])
+fn row(d: groups::Drawing, b: usize, c: usize, t: &mut [u8])
     requires { (b < c) × (c < 64) × (C (suc c) 3 ≤ length t.old) }
-    ensures { Stretch whole meets.now (C c 3 + C b 2) (C c 3 + C (suc b) 2) t.old t.new }
+    ensures { Stretch d.entry.whole d.entry.meets.now (C c 3 + C b 2) (C c 3 + C (suc b) 2) t.old t.new }
 {
-    let mut a = 0;
-    while a < b {
-        let said = bits(groups::ask(whole, meets, a, b, c));
-        tables::add(t, a, b, c, said);
-        a += 1;
+    for a in 0..b {
+        tables::add(t, a, b, c, bits(d.ask(a, b, c)));
     }
 }
 
 // The triples whose highest species is c.
-fn level(whole: u64, meets: &[u64; groups::CELLS], c: usize, t: &mut [u8])
+fn level(d: groups::Drawing, c: usize, t: &mut [u8])
     requires { (c < 64) × (C (suc c) 3 ≤ length t.old) }
-    ensures { Stretch whole meets.now (C c 3) (C (suc c) 3) t.old t.new }
+    ensures { Stretch d.entry.whole d.entry.meets.now (C c 3) (C (suc c) 3) t.old t.new }
 {
-    let mut b = 0;
-    while b < c {
-        row(whole, meets, b, c, t);
-        b += 1;
+    for b in 0..c {
+        row(d, b, c, t);
     }
 }
 
@@ -65,10 +63,9 @@ fn tree(
     ensures t_len { (length t.new ≡ C n 3) × Adds (tree_byte (tree_of body.now)) 0 (C n 3) t.old t.new }
 {
     let whole = groups::draw(body, groups, meets);
-    let mut c = 0;
-    while c < n {
-        level(whole, meets, c, t);
-        c += 1;
+    let d = groups::Drawing { whole, meets };
+    for c in 0..n {
+        level(d, c, t);
     }
 }
 
@@ -80,30 +77,20 @@ fn fill(b: &[u8], n: usize, m: usize, t: &mut [u8])
     tables::clear(t);
     let mut groups = [0; bodies::MOST_NODES];
     let mut meets = [0; groups::CELLS];
-    let mut k = 0;
-    while k < m {
-        let s = collections::body_span(b, k);
-        let from = s.start;
-        let to = s.end;
-        tree(n, &b[from..to], &mut groups, &mut meets, t);
-        k += 1;
+    for k in 0..m {
+        tree(n, collections::body(b, k), &mut groups, &mut meets, t);
     }
 }
 
 // Lists a collection into a table: whatever the table held is gone. A refusal leaves every byte as it was. "Reading returns what listing returns", and
 // so they share an answer.
-pub fn list(b: &[u8], t: &mut [u8]) -> collections::Answer
+pub fn list(b: &[u8], t: &mut [u8]) -> Result<Counts, Refusal>
     ensures { Lists b.now t.old result t.new }
 {
-    let read = collections::read(b);
-    match read {
-        collections::Answer::Done(c) => {
-            if !tables::fits(t, c.n) {
-                return collections::Answer::Refused(refusals::Refusal::BadTable);
-            }
-            fill(b, c.n, c.trees, t);
-            collections::Answer::Done(c)
-        }
-        collections::Answer::Refused(x) => collections::Answer::Refused(x),
+    let c = collections::read(b)?;
+    if !tables::fits(t, c.n) {
+        return Err(Refusal::BadTable);
     }
+    fill(b, c.n, c.trees, t);
+    Ok(c)
 }

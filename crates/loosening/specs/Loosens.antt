@@ -3,13 +3,13 @@ use Rattle.std.specs.Prelude.{List, [], ◌∷◌, ◌++◌, ℕ, length}
 use Rattle.bodies.specs.Draws.{tree_of}
 use Rattle.refusals.specs.Told.{Told, Value, dropped_count, number_of_nodes, told, value}
 use Rattle.answers.specs.Looks.{Settled, after, answered, first_refusal, look_room}
-use Rattle.refusals.specs.Refusals.{refusal_told}
-use Rattle.answers.specs.declared.Look.{Look}
+use Rattle.refusals.specs.Refusals.{told_by}
+use Rattle.answers.specs.Looks.{Look}
 use Rattle.checking.specs.Checks.{candidate_looks, look_pc}
 use Rattle.easing.specs.Eases.{Lent, eased, laid_out, tally}
 use Rattle.easing.specs.declared.Tally.{Tally}
-use Rattle.loosening.specs.declared.Answer.{Answer}
-use Rattle.loosening.specs.declared.Answer.TheVariants.{Done, Refused}
+use Rattle.std.specs.Prelude.{Ok, Err, Result}
+use Rattle.refusals.specs.declared.Refusal.{Refusal}
 
 -- "Refusals: 2, 7, 8, 5, 6, then 11 as in the check, then 9 where the tree room is shorter than the candidate's body or the lent list has under 62 places", for a
 -- room of l bytes and a list of k places
@@ -24,19 +24,18 @@ abbrev pub tally_values : Tally → List Value
 tally_values w = value number_of_nodes w.nodes ∷ value dropped_count w.dropped ∷ []
 
 -- o is what was lent before, r the answer, o' what was lent after
-abbrev pub Loosens : ℕ → List ℕ → List ℕ → Lent → Answer → Lent → Type 0
-Loosens n t b o r o' = Settled Done Refused (loosen_looks n t b (length o.room) (length o.list)) (tally (eased n t b)) (laid_out (eased n t b) o) o r o'
+abbrev pub Loosens : ℕ → List ℕ → List ℕ → Lent → Result Tally Refusal → Lent → Type 0
+Loosens n t b o r o' = Settled Ok Err (loosen_looks n t b (length o.room) (length o.list)) (tally (eased n t b)) (laid_out (eased n t b) o) o r o'
 
 -- what comes of a good body: o is what was lent before, r the answer, o' what was lent after
-abbrev pub Settles : ℕ → List ℕ → List ℕ → Lent → Answer → Lent → Type 0
-Settles n t b o r o' = Settled Done Refused (late_looks n t b (length o.room) (length o.list)) (tally (eased n t b)) (laid_out (eased n t b) o) o r o'
+abbrev pub Settles : ℕ → List ℕ → List ℕ → Lent → Result Tally Refusal → Lent → Type 0
+Settles n t b o r o' = Settled Ok Err (late_looks n t b (length o.room) (length o.list)) (tally (eased n t b)) (laid_out (eased n t b) o) o r o'
 
-abbrev pub loosen_answer : ℕ → List ℕ → List ℕ → ℕ → ℕ → Answer
-loosen_answer n t b l k = answered Done Refused (first_refusal (loosen_looks n t b l k)) (tally (eased n t b))
+abbrev pub loosen_answer : ℕ → List ℕ → List ℕ → ℕ → ℕ → Result Tally Refusal
+loosen_answer n t b l k = answered Ok Err (first_refusal (loosen_looks n t b l k)) (tally (eased n t b))
 
 abbrev pub loosen_after : ℕ → List ℕ → List ℕ → Lent → Lent
 loosen_after n t b o = after (first_refusal (loosen_looks n t b (length o.room) (length o.list))) (laid_out (eased n t b) o) o
 
-abbrev pub loosen_told : Answer → Told
-loosen_told (Done w) = told 0 (tally_values w)
-loosen_told (Refused x) = refusal_told x
+abbrev pub loosen_told : Result Tally Refusal → Told
+loosen_told = told_by (λ w. told 0 (tally_values w))

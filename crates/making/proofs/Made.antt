@@ -1,42 +1,33 @@
--- What is written for a call that has not begun, that is cut, and that is whole, and how long it is at most. Assumes nothing.
-use mathlib.Core.Bool.{Bool, cond, false, true}
-use mathlib.Core.List.{List, []}
-use mathlib.Core.Logic.{◌⊎◌, inl, inr}
-use mathlib.Core.Path.{◌≡◌, refl, sym}
+-- How long the line of a call is at most, and where it stands. Assumes nothing.
+use mathlib.Core.List.{List, [], append-nil}
+use mathlib.Core.Logic.{◌⊎◌, inl}
+use mathlib.Core.Path.{◌∙◌, ◌≡◌, refl, sym}
 use Prim.Native.Nat.{ℕ, ◌+◌, ◌≤◌}
 use native.Mathlib.Omega.{arith}
-use lib.ListN.{get_or, length, take}
-use lib.Seq.{length-take-le}
+use lib.ListN.{get_or, length, length-take, take}
 use Rattle.calls.specs.Calls.{fields_of}
+use Rattle.calls.specs.declared.call.Call.{Call}
+use Rattle.calls.specs.declared.Fields.{Fields}
 use Rattle.choosing.proofs.Chosen.{call_few}
 use Rattle.choosing.specs.Chosen.{line_of}
-use Rattle.making.specs.Made.{cut_line, longest_line, made_line}
-use Rattle.calls.specs.declared.Call.{Call}
+use Rattle.writing.proofs.Writing.{wrote_whole}
+use Rattle.writing.specs.Texts.{wrote}
+use Rattle.making.specs.Made.{Waits, cut_line, longest_line}
 
-module _ (c : Call) (xs : List (List ℕ)) where
-  pub made_none : c.begun ≡ false → [] ≡ made_line c xs
-  made_none b = rw b refl
+made_few : (c : Call) (f : Fields) → length (line_of c.byte c.numbers (fields_of c f)) ≤ longest_line (length (take (get_or c.lengths 1 0) f.second)) (length (take (get_or c.lengths 2 0) f.third)) (length (take (get_or c.lengths 3 0) f.fourth))
+made_few c f = call_few c.byte (get_or c.numbers 0 0) (get_or c.numbers 1 0) (take (get_or c.lengths 0 0) f.first) (take (get_or c.lengths 1 0) f.second) (take (get_or c.lengths 2 0) f.third) (take (get_or c.lengths 3 0) f.fourth)
 
-  pub made_cut : c.begun ≡ true → c.left.whole ≡ false → cut_line ≡ made_line c xs
-  made_cut b w = rw (b, w) refl
+-- where so many bytes are left behind as many as there are, the line of the call fits there
+pub made_fits : (c : Call) (f : Fields) (at m : ℕ) → at + longest_line (get_or c.lengths 1 0) (get_or c.lengths 2 0) (get_or c.lengths 3 0) ≤ m → at + length (line_of c.byte c.numbers (fields_of c f)) ≤ m
+made_fits c f at m h = omega (arith, made_few c f, length-take (get_or c.lengths 1 0) f.second, length-take (get_or c.lengths 2 0) f.third, length-take (get_or c.lengths 3 0) f.fourth)
 
-  pub made_whole : c.begun ≡ true → c.left.whole ≡ true → line_of c.byte c.numbers xs ≡ made_line c xs
-  made_whole b w = rw (b, w) refl
+-- a text that was written where it fits, behind what waits or at the front, waits with it
+pub waits_whole : {o p w o' : List ℕ} {m : ℕ} → (p ≡ o) ⊎ (p ≡ []) → o' ≡ wrote m p w → length p + length w ≤ m → Waits o w o'
+waits_whole {p = p} {w} {m = m} b e h = record { before = p; behind = b; text = e ∙ wrote_whole m p w h }
 
-  pub made_else : (t : Bool) → c.begun ≡ t → c.left.whole ≡ false → (made_line c xs ≡ cut_line) ⊎ (made_line c xs ≡ [])
-  made_else true b w = inl (sym (made_cut b w))
-  made_else false b w = inr (sym (made_none b))
+pub waits_cut : {o p o' : List ℕ} {m : ℕ} → (p ≡ o) ⊎ (p ≡ []) → o' ≡ wrote m p cut_line → length p + 4 ≤ m → Waits o cut_line o'
+waits_cut b e h = waits_whole b e h
 
-  made_by : (t u : Bool) → length (cond t (cond u (line_of c.byte c.numbers xs) cut_line) []) ≤ longest_line (length (get_or xs 1 [])) (length (get_or xs 2 [])) (length (get_or xs 3 []))
-  made_by true true = call_few c.byte (get_or c.numbers 0 0) (get_or c.numbers 1 0) (get_or xs 0 []) (get_or xs 1 []) (get_or xs 2 []) (get_or xs 3 [])
-  made_by true false = omega arith
-  made_by false u = omega arith
-
-  made_few : length (made_line c xs) ≤ longest_line (length (get_or xs 1 [])) (length (get_or xs 2 [])) (length (get_or xs 3 []))
-  made_few = made_by c.begun c.left.whole
-
--- where so many bytes are left from `at` on, the line of the call's fields fits there
-pub made_fits : (c : Call) (x y z w : List ℕ) (at m : ℕ) → c.second ≤ length y → c.third ≤ length z → c.fourth ≤ length w → at + longest_line c.second c.third c.fourth ≤ m → at + length (made_line c (fields_of c x y z w)) ≤ m
-made_fits c x y z w at m p q r h =
-    let e : length (made_line c (fields_of c x y z w)) ≤ longest_line (length (take c.second y)) (length (take c.third z)) (length (take c.fourth w)) = made_few c (fields_of c x y z w) in
-    omega (arith, e, length-take-le c.second y p, length-take-le c.third z q, length-take-le c.fourth w r, h)
+-- what waits waits on
+pub waits_none : (o : List ℕ) → Waits o [] o
+waits_none o = record { before = o; behind = inl refl; text = sym (append-nil o) }

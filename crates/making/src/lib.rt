@@ -1,85 +1,86 @@
 // A call that was read is made, and its line written behind the text that waits.
 #![tactic(auto)]
 
-ghost use Rattle.std.specs.Prelude.{◌≡◌, [], ◌∷◌, ◌⊎◌, ◌+◌, ◌≤◌, length};
-ghost use Rattle.writing.specs.Writes.{Writes};
+ghost use Rattle.std.specs.Prelude.{◌≡◌, ◌⊎◌, ◌+◌, ◌≤◌, [], length};
+ghost use Rattle.writing.specs.Texts.{wrote};
 ghost use Rattle.calls.specs.Calls.{fields_of};
-ghost use Rattle.choosing.specs.Room.{Room};
+ghost use Rattle.choosing.specs.Chosen.{line_of};
 ghost use Rattle.making.specs.Made.{Waits, longest_line, made_line};
 
-use calls::Call;
+use calls::{Call, Fields, NoCall, ROOM};
+use choosing::Memory;
+use writing::Text;
 
-// Writes the line of a call: of one that has not begun none, and `cut` of one that is not whole.
-fn line(
-    c: Call,
-    first: &[u8],
-    second: &mut [u8],
-    third: &mut [u8],
-    fourth: &[u8],
-    records: &mut [[u8; 3]],
-    list: &mut [u64],
-    out: &mut [u8],
-    at: usize,
-) -> usize
-    requires { Room first.now fourth.now records.old list.old }
-    ensures { Writes out.old at (made_line c (first.now ∷ second.old ∷ third.old ∷ fourth.now ∷ [])) out.new result }
-{
-    let n = c.numbers[0];
-    let m = c.numbers[1];
-    let left = c.left;
-    if !c.begun {
-        return at;
-    }
-    if !left.whole {
-        return writing::put_word(out, at, b"cut\n");
-    }
-    choosing::call_line(
-        c.byte, n, m, first, second, third, fourth, records, list, out, at,
-    )
+// How many sets a field has at most.
+const SETS: usize = 8192;
+
+// Where the fields of a call go, and where its sets are laid out.
+#[derive(Drop)]
+pub struct Rooms {
+    pub fields: Fields,
+    list: [u64; SETS],
 }
 
-// Prints the text that waits, where the next line may not fit behind it.
-fn make_room(out: &[u8], len: usize, line: usize) -> usize
-    requires { (len ≤ length out.now) × (line ≤ length out.now) }
-    ensures { (result + line ≤ length out.now) × ((result ≡ len) ⊎ (result ≡ 0)) }
-{
-    if line <= out.len() - len {
-        return len;
+impl Rooms {
+    pub fn new() -> Self {
+        Rooms {
+            fields: Fields {
+                first: [0; ROOM],
+                second: [0; ROOM],
+                third: [0; ROOM],
+                fourth: [0; ROOM],
+            },
+            list: [0; SETS],
+        }
     }
-    io::write_all(1, &out[0..len]);
-    0
 }
 
-// Makes a call, and writes its line behind the text that waits: how much text waits then.
-pub fn make(
-    c: Call,
-    first: &[u8],
-    second: &mut [u8],
-    third: &mut [u8],
-    fourth: &[u8],
-    records: &mut [[u8; 3]],
-    list: &mut [u64],
-    out: &mut [u8],
-    len: usize,
-) -> usize
-    requires first_in_bounds { (c.first ≤ length first.now) × (c.second ≤ length second.old) × (c.third ≤ length third.old) × (c.fourth ≤ length fourth.now) × (len ≤ length out.old) }
-    requires room { Room first.now fourth.now records.old list.old × (longest_line (length second.old) (length third.old) (length fourth.now) ≤ length out.old) }
-    ensures { Waits out.old len (made_line c (fields_of c first.now second.old third.old fourth.now)) out.new result }
+// Makes a call, and writes its line.
+fn line<const SIZE: usize>(out: &mut Text<SIZE>, call: &Call, rooms: &mut Rooms)
+    ensures { out.new ≡ wrote SIZE out.old (line_of call.now.byte call.now.numbers (fields_of call.now rooms.old.fields)) }
 {
-    let i = c.first;
-    let j = c.second;
-    let k = c.third;
-    let l = c.fourth;
-    let at = make_room(out, len, 21 * (j + k + l / 8) + 150);
-    line(
-        c,
-        &first[0..i],
-        &mut second[0..j],
-        &mut third[0..k],
-        &fourth[0..l],
-        records,
-        list,
-        out,
-        at,
-    )
+    let [n, m, _] = call.numbers;
+    let [i, j, k, l] = call.lengths;
+    // The borrow checker covers a part of a slice, and not a part of a field that is an array.
+    let second = &mut rooms.fields.second[..];
+    let third = &mut rooms.fields.third[..];
+    let memory = Memory {
+        first: &rooms.fields.first[..i],
+        second: &mut second[..j],
+        third: &mut third[..k],
+        fourth: &rooms.fields.fourth[..l],
+        list: &mut rooms.list,
+    };
+    choosing::call_line(out, call.byte, n, m, memory);
+}
+
+// Prints the text that waits, where so many bytes may not fit behind it.
+fn make_room<const SIZE: usize>(out: &mut Text<SIZE>, line: usize)
+    requires { line ≤ SIZE }
+    ensures { (length out.new + line ≤ SIZE) × ((out.new ≡ out.old) ⊎ (out.new ≡ [])) }
+{
+    if out.len() > SIZE - line {
+        io::write_all(1, out.as_slice());
+        out.clear();
+    }
+}
+
+// Makes a call, and writes its line behind the text that waits; of one that was cut the line is `cut`, and where the input has ended there is none.
+#[tactic(auto, using(crate::proofs::Made::waits_none, crate::proofs::Made::waits_cut))]
+pub fn make<const SIZE: usize>(out: &mut Text<SIZE>, call: &Result<Call, NoCall>, rooms: &mut Rooms)
+    requires room { longest_line ROOM ROOM ROOM ≤ SIZE }
+    ensures { Waits out.old (made_line call.now rooms.old.fields) out.new }
+{
+    match call {
+        Ok(call) => {
+            let [_, j, k, l] = call.lengths;
+            make_room(out, 21 * (j + k + l / 8) + 150);
+            line(out, call, rooms);
+        }
+        Err(NoCall::Cut) => {
+            make_room(out, 4);
+            out.word(b"cut\n");
+        }
+        Err(NoCall::End) => {}
+    }
 }

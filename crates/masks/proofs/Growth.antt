@@ -39,9 +39,6 @@ grown_next Q i g k = rw (add-one i) (grown_as (λ x y z. or_comm (any i (λ j. Q
 
 -- the same of R, whatever the tree is
 module _ {t : List ℕ} {whole : ℕ} {meets : List ℕ} where
-  pub noted_none : (P : Triplets → Triplets) {m : List ℕ} → ((E : Triplets) (x y z : ℕ) → P E x y z ≡ false) → length m ≡ cells → Noted t whole meets P m m
-  noted_none P f s = record { size = s; grown = λ T _ _. grown_none (f (R (entered t) T)) }
-
   pub noted_next : (Q : ℕ → Triplets → Triplets) (i : ℕ) {m m₁ m₂ : List ℕ} → Noted t whole meets (λ E x y z. any i (λ j. Q j E x y z)) m m₁
       → Noted t whole meets (Q i) m₁ m₂ → Noted t whole meets (λ E x y z. any (i + 1) (λ j. Q j E x y z)) m m₂
   noted_next Q i g k = record { size = k.size; grown = λ T m w. grown_next (λ j. Q j (R (entered t) T)) i (g.grown T m w) (k.grown T m w) }

@@ -14,8 +14,9 @@ use Rattle.sets.proofs.Least.{some_member}
 use Rattle.sets.proofs.Members.{any_e, any_i}
 use Rattle.sets.proofs.Tests.{has-below, has_empty, has_meet, has-minus, has-number, has-single, has_true, has-union, number-has, number-union, number_unique, true_has}
 use Rattle.sets.specs.Floods.{Kept}
-use Rattle.sets.specs.Sets.{Lowest, Rest, Subset, has, meet, minus, number, single, union}
+use Rattle.sets.specs.Sets.{Subset, has, meet, minus, number, single, union}
 use Rattle.sets.specs.Species.{Below, Inside, Species, any, either}
+use Rattle.sets.specs.Walks.{Turn}
 use Rattle.trees.proofs.Parts.{part_closed, part-least, part_refl, part_sym}
 use Rattle.trees.specs.Check.{Joins}
 use Rattle.trees.specs.Links.{linked, part}
@@ -32,27 +33,27 @@ pub record Gathered (P : Species) (s left r : ℕ) : Type 0 where
   pub is : (k : ℕ) → has r k ≡ ((has s k && not (has left k)) && P k)
 
 module _ (P : Species) (s : ℕ) where
-  pub gather-start : Gathered P s s 0
-  gather-start = record { inside = λ k h. h; is = λ k. has_empty k ∙ rw (and-not_self (has s k)) refl }
+  pub gather-start : (left : ℕ) → left ≡ s → Gathered P s left 0
+  gather-start left e = rw e (record { inside = λ k h. h; is = λ k. has_empty k ∙ rw (and-not_self (has s k)) refl })
 
-  module _ (left j left' r : ℕ) (n : left ≢ 0) (lo : Lowest left j) (re : Rest left left') (g : Gathered P s left r) where
+  module _ (left j left' r : ℕ) (t : Turn left j left') (g : Gathered P s left r) where
     in_left : So (has left j)
-    in_left = true_has left j (lo.member n)
+    in_left = true_has left j t.member
 
     inside' : (k : ℕ) → So (has left' k) → So (has s k)
     inside' k h = go (ℕ_discrete j k)
       where
         go : Dec (j ≡ k) → So (has s k)
-        go (yes e) = absurd (false≢true (sym (rest_lacks left j left' lo re) ∙ rw e h))
-        go (no m) = g.inside k (sym (rest_others left j left' lo re k m) ∙ h)
+        go (yes e) = absurd (false≢true (sym (rest_lacks left j left' t.lowest t.rest) ∙ rw e h))
+        go (no m) = g.inside k (sym (rest_others left j left' t.lowest t.rest k m) ∙ h)
 
     -- what a step makes of r, at j and elsewhere
     gathered : (r' : ℕ) → has r' j ≡ P j → ((k : ℕ) → j ≢ k → has r' k ≡ has r k) → Gathered P s left' r'
     gathered r' here there = record { inside = inside'; is = λ k. go k (ℕ_discrete j k) }
       where
         go : (k : ℕ) → Dec (j ≡ k) → has r' k ≡ ((has s k && not (has left' k)) && P k)
-        go k (yes e) = rw (← e, g.inside j in_left, rest_lacks left j left' lo re) here
-        go k (no m) = there k m ∙ g.is k ∙ rw (rest_others left j left' lo re k m) refl
+        go k (yes e) = rw (← e, g.inside j in_left, rest_lacks left j left' t.lowest t.rest) here
+        go k (no m) = there k m ∙ g.is k ∙ rw (rest_others left j left' t.lowest t.rest k m) refl
 
     pub gather_yes : (r' : ℕ) → P j ≡ true → r' ≡ union r (single j) → Gathered P s left' r'
     gather_yes r' p e = gathered r'

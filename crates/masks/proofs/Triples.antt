@@ -1,5 +1,5 @@
 -- What is entered of the resolved triples, over all triples of species below n, is R. Assumes nothing.
-use mathlib.Core.Bool.{Bool, So, ◌&&◌, ◌||◌, and-false, and-true, cond, false, true}
+use mathlib.Core.Bool.{Bool, So, ◌&&◌, ◌||◌, and-false, and-true, false, true}
 use mathlib.Core.List.{List}
 use mathlib.Core.Logic.{inl, inr, ⊎_elim}
 use mathlib.Core.Path.{◌∙◌, ◌≡◌, ap, refl, sym}
@@ -18,27 +18,15 @@ use Rattle.trees.proofs.Triples.{nowhere_e}
 use Rattle.trees.proofs.Triplets.{on_swap, on_turn, only_e, only_i, only_l}
 use Rattle.trees.specs.Check.{R}
 use Rattle.trees.specs.Trees.{Tree}
-use Rattle.trees.specs.Triplets.{Proper, Triplets, fan, holds, only, resolves}
+use Rattle.trees.specs.Triplets.{Proper, Triplets, holds, only, resolves}
 use Rattle.tables.proofs.Bytes.{entered_proper}
 use Rattle.tables.specs.Bytes.{entered}
-use Rattle.groups.specs.Groups.{Candidate, cell, cells, says}
-use Rattle.groups.specs.declared.Says.TheVariants.{AB, AC, BC, Absent, Fan}
+use Rattle.groups.specs.Groups.{Candidate, cell, cells}
 use Rattle.masks.proofs.Growth.{grown_as, grown_both, grown_none}
-use Rattle.masks.specs.Filling.{Masked, Noted, in_level, in_row, in_triple, in_triples, is_triplet, shown}
+use Rattle.masks.specs.Filling.{Masked, Noted, in_level, in_row, in_triple, in_triples, shown}
 use Rattle.masks.specs.Masks.{Masks}
 
 -- ---- one triple
-
-pub is_triplet-says : (T : Tree) (a b c : ℕ) → is_triplet (says T a b c) ≡ resolves T a b c
-unfolding is_triplet
-is_triplet-says T a b c = go (holds T a b c) (holds T a c b) (holds T b c a) (fan T a b c)
-  where
-    go : (p q r f : Bool) → is_triplet (cond p AB (cond q AC (cond r BC (cond f Fan Absent)))) ≡ (p || (q || r))
-    go true q r f = refl
-    go false true r f = refl
-    go false false true f = refl
-    go false false false true = refl
-    go false false false false = refl
 
 module _ (T : Tree) (a b c : ℕ) where
   -- the order of the three species does not matter
@@ -112,9 +100,9 @@ grown_masks E pr n hn inn m s g = record {
 }
 
 pub relate_masks : {t : List ℕ} {whole : ℕ} {meets m : List ℕ} (n : ℕ) (T : Tree) → n ≤ 64 → Candidate n T whole meets
-    → Noted t whole meets (λ E. in_triples E n) (replicate cells 0) m → Masks (R (entered t) T) m
-relate_masks {t} n T hn d k =
+    → (c : ℕ) → c ≡ n → Noted t whole meets (λ E. in_triples E c) (replicate cells 0) m → Masks (R (entered t) T) m
+relate_masks {t} n T hn d c e k =
     let E = entered t in
     let pr = entered_proper t in
     grown_masks (R E T) (R-proper E pr T) n hn (λ a b c h. let w = R-in E pr T a b c h in (d.below a w.0, d.below b w.1, d.below c w.2)) _ k.size
-    (k.grown T d.drawn.meet d.drawn.all)
+    (rw (← e) (k.grown T d.drawn.meet d.drawn.all))

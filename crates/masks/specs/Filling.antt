@@ -1,5 +1,5 @@
 -- How masks grow triple by triple, which species they link on a set, and what the private functions tell of both.
-use Rattle.std.specs.Prelude.{Bool, true, false, not, ◌&&◌, ◌||◌, List, ◌≡◌, ℕ, ◌<◌, eqb, length}
+use Rattle.std.specs.Prelude.{not, ◌&&◌, ◌||◌, List, ◌≡◌, ℕ, ◌<◌, eqb, length}
 use Rattle.sets.specs.Sets.{has, meet}
 use Rattle.sets.specs.Species.{Species, any}
 use Rattle.trees.specs.Check.{R}
@@ -7,16 +7,6 @@ use Rattle.trees.specs.Trees.{Tree}
 use Rattle.trees.specs.Triplets.{Triplets, on_triple, only}
 use Rattle.tables.specs.Bytes.{entered}
 use Rattle.groups.specs.Groups.{Meets, cell, cells, set_of}
-use Rattle.groups.specs.declared.Says.{Says}
-use Rattle.groups.specs.declared.Says.TheVariants.{AB, AC, BC, Absent, Fan}
-
--- what a tree says of a triple is one of the three triplets
-unfoldable pub is_triplet : Says → Bool
-is_triplet AB = true
-is_triplet AC = true
-is_triplet BC = true
-is_triplet Fan = false
-is_triplet Absent = false
 
 -- m' has what m has, and z in the mask of x and y where P tells xy|z
 pub record Masked (P : Triplets) (m m' : List ℕ) : Type 0 where

@@ -1,7 +1,7 @@
 // The entered triplets on the triples that a tree resolves, and their links on a set.
 #![tactic(auto)]
 
-ghost use Rattle.std.specs.Prelude.{◌≡◌, true, ◌&&◌, ◌↔◌, ◌<◌, ◌≤◌, eqb, length, replicate};
+ghost use Rattle.std.specs.Prelude.{◌≡◌, true, ◌&&◌, ◌↔◌, ◌<◌, ◌≤◌, eqb, length};
 ghost use Rattle.std.proofs.Math.Bool.{So};
 ghost use Rattle.sets.specs.Sets.{has, number};
 ghost use Rattle.sets.specs.Species.{either};
@@ -13,13 +13,6 @@ ghost use Rattle.tables.specs.Bytes.{entered};
 ghost use Rattle.groups.specs.Groups.{Meets, Candidate, cells, set_of};
 ghost use Rattle.masks.specs.Masks.{Masks};
 ghost use Rattle.masks.specs.Filling.{Masked, Noted, in_triple, in_row, in_level, touch};
-
-// No triplet.
-fn clear(masks: &mut [u64; groups::CELLS])
-    ensures { masks.new ≡ replicate cells 0 }
-{
-    *masks = [0; groups::CELLS];
-}
 
 // c into the mask of a and b, in this order.
 fn add(a: usize, b: usize, c: usize, masks: &mut [u64; groups::CELLS])
@@ -42,34 +35,29 @@ fn put(on: bool, a: usize, b: usize, c: usize, masks: &mut [u64; groups::CELLS])
 }
 
 // Does the tree resolve the triple?
-fn resolved(whole: u64, meets: &[u64; groups::CELLS], a: usize, b: usize, c: usize) -> bool
+fn resolved(d: groups::Drawing, a: usize, b: usize, c: usize) -> bool
     requires { So (different a b c) × (a < 64) × (b < 64) × (c < 64) }
-    ensures { (T : Tree) → Meets T meets.now → whole ≡ set_of T → result ≡ resolves T a b c }
+    ensures { (T : Tree) → Meets T d.entry.meets.now → d.entry.whole ≡ set_of T → result ≡ resolves T a b c }
 {
-    let s = groups::ask(whole, meets, a, b, c);
-    match s {
-        groups::Says::AB => true,
-        groups::Says::AC => true,
-        groups::Says::BC => true,
-        groups::Says::Fan => false,
-        groups::Says::Absent => false,
-    }
+    matches!(
+        d.ask(a, b, c),
+        groups::Says::AB | groups::Says::AC | groups::Says::BC
+    )
 }
 
 // What is entered of the triple a < b < c, where the tree resolves it.
 fn note(
     t: &[u8],
-    whole: u64,
-    meets: &[u64; groups::CELLS],
+    d: groups::Drawing,
     a: usize,
     b: usize,
     c: usize,
     masks: &mut [u64; groups::CELLS],
 )
     requires { (a < b) × (b < c) × (c < 64) × (length masks.old ≡ cells) }
-    ensures { Noted t.now whole meets.now (λ E. in_triple E a b c) masks.old masks.new }
+    ensures { Noted t.now d.entry.whole d.entry.meets.now (λ E. in_triple E a b c) masks.old masks.new }
 {
-    if !resolved(whole, meets, a, b, c) {
+    if !resolved(d, a, b, c) {
         return;
     }
     let s = tables::bits_of(t, a, b, c);
@@ -79,59 +67,34 @@ fn note(
 }
 
 // The triples with b and c, from the lowest a on.
-fn row(
-    t: &[u8],
-    whole: u64,
-    meets: &[u64; groups::CELLS],
-    b: usize,
-    c: usize,
-    masks: &mut [u64; groups::CELLS],
-)
+fn row(t: &[u8], d: groups::Drawing, b: usize, c: usize, masks: &mut [u64; groups::CELLS])
     requires { (b < c) × (c < 64) × (length masks.old ≡ cells) }
-    ensures { Noted t.now whole meets.now (λ E. in_row E b b c) masks.old masks.new }
+    ensures { Noted t.now d.entry.whole d.entry.meets.now (λ E. in_row E b b c) masks.old masks.new }
 {
-    let mut a = 0;
-    while a < b {
-        note(t, whole, meets, a, b, c, masks);
-        a += 1;
+    for a in 0..b {
+        note(t, d, a, b, c, masks);
     }
 }
 
 // The triples whose highest species is c.
-fn level(
-    t: &[u8],
-    whole: u64,
-    meets: &[u64; groups::CELLS],
-    c: usize,
-    masks: &mut [u64; groups::CELLS],
-)
+fn level(t: &[u8], d: groups::Drawing, c: usize, masks: &mut [u64; groups::CELLS])
     requires { (c < 64) × (length masks.old ≡ cells) }
-    ensures { Noted t.now whole meets.now (λ E. in_level E c c) masks.old masks.new }
+    ensures { Noted t.now d.entry.whole d.entry.meets.now (λ E. in_level E c c) masks.old masks.new }
 {
-    let mut b = 0;
-    while b < c {
-        row(t, whole, meets, b, c, masks);
-        b += 1;
+    for b in 0..c {
+        row(t, d, b, c, masks);
     }
 }
 
 // R of a candidate: the entered triplets on the triples that it resolves, as masks. What `masks` held does not matter.
-pub fn relate(
-    t: &[u8],
-    n: usize,
-    whole: u64,
-    meets: &[u64; groups::CELLS],
-    masks: &mut [u64; groups::CELLS],
-)
+pub fn relate(t: &[u8], n: usize, d: groups::Drawing, masks: &mut [u64; groups::CELLS])
     requires { (n ≤ 64) × (length masks.old ≡ cells) }
     ensures masks_len { length masks.new ≡ cells }
-    ensures masks { (T : Tree) → Candidate n T whole meets.now → Masks (R (entered t.now) T) masks.new }
+    ensures masks { (T : Tree) → Candidate n T d.entry.whole d.entry.meets.now → Masks (R (entered t.now) T) masks.new }
 {
-    clear(masks);
-    let mut c = 0;
-    while c < n {
-        level(t, whole, meets, c, masks);
-        c += 1;
+    *masks = [0; groups::CELLS];
+    for c in 0..n {
+        level(t, d, c, masks);
     }
 }
 
@@ -141,18 +104,15 @@ fn near(masks: &[u64; groups::CELLS], s: u64, fresh: u64, i: usize) -> u64
     ensures { result ≡ number 64 (λ j. has fresh j && touch masks.now s i j) }
 {
     let mut r = 0;
-    let mut left = fresh;
-    while left != 0 {
-        let j = sets::lowest(left);
+    for j in sets::species(fresh) {
         if sets::meet(masks[i * 64 + j], s) != 0 {
             r = sets::with(r, j);
         }
-        left = sets::rest(left);
     }
     r
 }
 
-// The connected part of a in s, under the links of the masks on s.
+// The connected part of a in s, under the links of the masks on s. No `for`: what is to do grows while the loop goes on.
 pub fn part(masks: &[u64; groups::CELLS], s: u64, a: usize) -> u64
     requires { a < 64 }
     ensures { (E : Triplets) → Proper E → Masks E masks.now → So (has s a) → has result ≡ part E 64 (has s) a }

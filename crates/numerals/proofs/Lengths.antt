@@ -14,8 +14,9 @@ use Rattle.newick.specs.Scan.{State, act, behind, due, ended, go, number, past_l
 use Rattle.newick.specs.Signs.{Sign, closing, colon, comma, figure, foreign, opening, point, semicolon, sign, space}
 use Rattle.newick.proofs.Signs.{Shows, digit-sign, shows}
 use Rattle.numerals.specs.Goes.{Branched, Goes, IdleOnBlanks, IdleOnDigits, Parted, Stops}
+use Rattle.std.proofs.Common.{Result, Ok, Err}
+use Rattle.numerals.specs.declared.BadPlace.{BadPlace}
 use Rattle.numerals.specs.declared.Got.{Got}
-use Rattle.numerals.specs.declared.Got.TheVariants.{At, Bad}
 use Rattle.numerals.proofs.Steps.{Off, digit_on, goes_as, goes_off, goes_on, goes_out}
 
 -- ---- what a byte is not
@@ -244,6 +245,6 @@ module _ (w : List ℕ) (ps : List ℕ) (n : ℕ) (d : List ℕ) where
   number_ends i v l f = goes_as w i _ _ l refl (λ h. number_same ps n d v (sign (get_or w i 0)) (not_figure (get_or w i 0) (f h)))
 
 -- a length whose first digits end at k
-pub branched : (w : List ℕ) (i k m : ℕ) (r : Got) → i ≤ k → ((ps : List ℕ) (n : ℕ) (d : List ℕ) → Goes w (state (behind true) ps n d) i (state whole ps n d) k) → Parted w k m r → Branched w i m r
-branched w i k m (At j x) l g h = (omega (arith, h.0), h.1, h.2, h.3, λ ps n d. g ps n d ∙ h.4 ps n d)
-branched w i k m (Bad q) l g h = (h.0, λ ps n d. g ps n d ∙ h.1 ps n d)
+pub branched : (w : List ℕ) (i k m : ℕ) (r : Result Got BadPlace) → i ≤ k → ((ps : List ℕ) (n : ℕ) (d : List ℕ) → Goes w (state (behind true) ps n d) i (state whole ps n d) k) → Parted w k m r → Branched w i m r
+branched w i k m (Ok x) l g h = (omega (arith, h.0), h.1, h.2, h.3, λ ps n d. g ps n d ∙ h.4 ps n d)
+branched w i k m (Err q) l g h = (h.0, λ ps n d. g ps n d ∙ h.1 ps n d)

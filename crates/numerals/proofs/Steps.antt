@@ -3,7 +3,7 @@ use mathlib.Core.Bool.{Bool, So, cond, false, false≢true, true}
 use mathlib.Core.List.{List, [], ◌∷◌}
 use mathlib.Core.Logic.{◌⊎◌, inl, inr}
 use mathlib.Core.Path.{◌∙◌, ◌≡◌, ap, refl, sym}
-use Prim.Native.Nat.{ℕ, suc, ◌+◌, ◌-◌, ◌<◌, ◌≤◌}
+use Prim.Native.Nat.{ℕ, zero, suc, ◌+◌, ◌-◌, ◌<◌, ◌≤◌}
 use native.Mathlib.Decide.{dec_lt}
 use native.Mathlib.Numerals.{add-one}
 use native.Mathlib.Omega.{arith}
@@ -72,3 +72,12 @@ pub digit_on : (w : List ℕ) (i : ℕ) → i < length w → So (digit (get_or w
 digit_on w i l h s k =
     let c = get_or w i 0 in
     goes_on w i s s l (ap (past_limit s) (digit-sign c h) ∙ (k (c - 48)).1) (ap (act s) (digit-sign c h) ∙ (k (c - 48)).0)
+
+-- a state that each byte from place i up to place r leaves as it is
+pub goes_past : (w : List ℕ) (s : State) (i r : ℕ) → i ≤ r → ((k : ℕ) → i ≤ k → k < r → Goes w s k s (k + 1)) → Goes w s i s r
+goes_past w s i zero l h = let e : i ≡ 0 = omega arith in ap (λ (x : ℕ). scan_from true s (drop x w)) e
+goes_past w s i (suc r) l h = by (dec_lt i (suc r)) (λ g. goes_past w s i r (omega arith) (λ k a b. h k a (omega arith)))
+  where
+    by : Dec (i < suc r) → (i < suc r → Goes w s i s r) → Goes w s i s (suc r)
+    by (yes g) f = f g ∙ rw add-one at (h r (omega arith) (omega arith))
+    by (no g) f = let e : i ≡ suc r = omega arith in ap (λ (x : ℕ). scan_from true s (drop x w)) e

@@ -17,34 +17,9 @@ fn reaches(t: &[u8], s: u64, a: usize, b: usize, c: usize) -> bool
 }
 
 // The first triple of n species, in index order, that reaches outside s with a byte that is not 0.
-pub fn first_outside(n: usize, t: &[u8], s: u64) -> triples::Found
+pub fn first_outside(n: usize, t: &[u8], s: u64) -> Option<triples::Triple>
     requires { n ≤ 64 }
     ensures { Finds n (reaches t.now s) result }
 {
-    let mut found = false;
-    let mut x = 0;
-    let mut y = 0;
-    let mut z = 0;
-    'search: for c in 0..n {
-        for b in 0..c {
-            for a in 0..b {
-                if reaches(t, s, a, b, c) {
-                    found = true;
-                    x = a;
-                    y = b;
-                    z = c;
-                    break 'search;
-                }
-            }
-        }
-    }
-    if found {
-        triples::Found::At(triples::Triple {
-            low: x,
-            mid: y,
-            high: z,
-        })
-    } else {
-        triples::Found::Nowhere
-    }
+    triples::first(n, |a, b, c| reaches(t, s, a, b, c))
 }

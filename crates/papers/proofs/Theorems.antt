@@ -15,14 +15,15 @@ use Rattle.papers.specs.Bundled.{bundled}
 use Rattle.papers.specs.Papers.{CollectionOf, EachRead, FirstBad, IsRead, Says, text_at}
 use Rattle.papers.specs.Reads.{all_read', bodies_of, found_in, most_bytes, most_papers, papers_answer, read_from}
 use Rattle.texts.specs.Texts.{texts}
-use Rattle.papers.specs.declared.Answer.{Answer}
-use Rattle.papers.specs.declared.Answer.TheVariants.{Bad, Done, Long}
 use Rattle.papers.specs.declared.Bad as refused
 use Rattle.papers.specs.declared.Found.{Found}
 use Rattle.papers.proofs.Bodies.{text_read}
 use Rattle.papers.proofs.Bundles.{bundled_body, bundled_most, bundled_whole}
 use Rattle.papers.proofs.Outcomes.{Outcome, all, bad, many, outcome}
 use Rattle.texts.proofs.Texts.{text_bytes, text_within}
+use Rattle.papers.specs.declared.Unread.TheVariants.{Bad, Long}
+use Rattle.papers.specs.declared.Unread.{Unread}
+use Rattle.std.specs.Prelude.{Ok, Err, Result}
 
 -- 1 to 16 bodies that are good with n = 64, bundled with one more than their highest species, are a good collection of these bodies; and that number is 1 to 64
 pub bundled_good : (n : ℕ) (bs : List (List ℕ)) → 0 < length bs → length bs ≤ most_papers → ((k : ℕ) → k < length bs → Body 64 (get_or bs k [])) → n ≡ top_of_all bs → CollectionOf n bs (bundled n bs)
@@ -63,7 +64,7 @@ module _ (w : List ℕ) where
   all_say [] e few read = omega (arith, count, ap length e)
   all_say (b ∷ bs) e few read = subst (λ (cs : List (List ℕ)). EachRead w (found_in cs)) e (found_all (omega (arith, ap length e)) few read)
 
-  say : (r : Answer) → Outcome (all_read' (bodies_of w)) 0 0 (texts w) r → Says w r
+  say : (r : Result Found Unread) → Outcome (all_read' (bodies_of w)) 0 0 (texts w) r → Says w r
   say r (all e l h) = subst (Says w) (sym e) (all_say (bodies_of w) refl (omega arith) h)
   say r (many e l h) = subst (Says w) (sym e) (omega arith, λ k i. h k (omega arith))
   say r (bad x j e a l m i g u v) =
@@ -87,14 +88,14 @@ pub papers_say : (w : List ℕ) → Says w (papers_answer w)
 unfolding papers_answer
 papers_say w = by (ltb most_bytes (length w)) refl
   where
-    by : (o : Bool) → ltb most_bytes (length w) ≡ o → Says w (cond o Long (read_from (all_read' (bodies_of w)) 0 0 (texts w)))
+    by : (o : Bool) → ltb most_bytes (length w) ≡ o → Says w (cond o (Err Long) (read_from (all_read' (bodies_of w)) 0 0 (texts w)))
     by true e = ltb-true most_bytes (length w) e
     by false e = say w _ (outcome (all_read' (bodies_of w)) 0 0 (texts w) (omega arith))
 
 -- papers that are read: each text of the input, and what is found is the collection of their bodies
-pub papers_good : (w : List ℕ) (f : Found) → papers_answer w ≡ Done f → EachRead w f
+pub papers_good : (w : List ℕ) (f : Found) → papers_answer w ≡ Ok f → EachRead w f
 papers_good w f e = subst (Says w) e (papers_say w)
 
 -- a paper that is refused: it is the first such text
-pub papers-bad : (w : List ℕ) (x : refused.Bad) → papers_answer w ≡ Bad x → FirstBad w x
+pub papers-bad : (w : List ℕ) (x : refused.Bad) → papers_answer w ≡ Err (Bad x) → FirstBad w x
 papers-bad w x e = subst (Says w) e (papers_say w)

@@ -12,55 +12,57 @@ use Rattle.refusals.specs.declared.Refusal.{Refusal}
 use Rattle.answers.specs.declared.Written.{Written}
 use Rattle.collections.specs.Layout.{longest_collection}
 use Rattle.parsing.specs.Parses.{text_body}
-use Rattle.parsing.specs.declared.Answer as parsing
-use Rattle.parsing.specs.declared.Answer.TheVariants as parsed
 use Rattle.highest.specs.Bound.{top_of, top_of_all}
 use Rattle.papers.specs.Bundled.{bundled, chained, with_length}
 use Rattle.papers.specs.OneText.{next_of, onward}
 use Rattle.papers.specs.Reads.{all_read', bodies_of, found_in, most_bytes, most_papers, papers_answer, read_from, text_answer}
 use Rattle.texts.specs.Texts.{all_blank, span, texts}
-use Rattle.papers.specs.declared.Answer.{Answer}
-use Rattle.papers.specs.declared.Answer.TheVariants.{Bad, Done, Long, Many, None}
-use Rattle.papers.specs.declared.Next.TheVariants.{At, Stop}
 use Rattle.papers.proofs.Bodies.{text_read, text_short}
 use Rattle.highest.proofs.Bounds.{all_more, top_most}
 use Rattle.papers.proofs.Bundles.{chained_more}
 use Rattle.texts.proofs.Texts.{span_some, span_within, texts-next, texts-none}
+use Rattle.papers.specs.declared.Unread.TheVariants.{Bad, Empty, Long, Many}
+use Rattle.papers.specs.declared.Unread.{Unread}
+use Rattle.std.specs.Prelude.{Ok, Err, Result}
+use Rattle.papers.specs.declared.Behind.{Behind}
+use Rattle.papers.specs.declared.Found.{Found}
 
 -- ---- the answer of one text, from what comes of it for the loop
 
-at_read : (t : List ℕ) (p q m : ℕ) → next_of t p ≡ At q m → (x : Written) × (text_answer t ≡ parsed.Done x) × (q ≡ p + length (with_length (text_body t))) × (m ≡ top_of (text_body t))
+at_read : (t : List ℕ) (p q m : ℕ) → next_of t p ≡ Ok (record { next = q; top = m }) → (x : Written) × (text_answer t ≡ Ok x) × (q ≡ p + length (with_length (text_body t))) × (m ≡ top_of (text_body t))
 at_read t p q m e = by (text_answer t) refl e
   where
-    by : (r : parsing.Answer) → text_answer t ≡ r → onward (At (p + length (with_length (text_body t))) (top_of (text_body t))) r ≡ At q m
-        → (x : Written) × (text_answer t ≡ parsed.Done x) × (q ≡ p + length (with_length (text_body t))) × (m ≡ top_of (text_body t))
-    by (parsed.Done x) a e = (x, a, cc, cc)
-    by (parsed.Refused y) a e = let z : ◌≡◌ {A = ℕ} 0 1 = cc in absurd (omega arith)
+    by : (r : Result Written Refusal) → text_answer t ≡ r → onward (Ok (record { next = p + length (with_length (text_body t)); top = top_of (text_body t) })) r ≡ Ok (record { next = q; top = m })
+        → (x : Written) × (text_answer t ≡ Ok x) × (q ≡ p + length (with_length (text_body t))) × (m ≡ top_of (text_body t))
+    by (Ok x) a e =
+        let z : ◌≡◌ {A = Behind} (record { next = p + length (with_length (text_body t)); top = top_of (text_body t) }) (record { next = q; top = m }) = cc in
+        (x, a, ap (λ (b : Behind). b.next) (sym z), ap (λ (b : Behind). b.top) (sym z))
+    by (Err y) a e = let z : ◌≡◌ {A = ℕ} 0 1 = cc in absurd (omega arith)
 
-stop_refused : (t : List ℕ) (p : ℕ) (x : Refusal) → next_of t p ≡ Stop x → text_answer t ≡ parsed.Refused x
+stop_refused : (t : List ℕ) (p : ℕ) (x : Refusal) → next_of t p ≡ Err x → text_answer t ≡ Err x
 stop_refused t p x e = by (text_answer t) refl e
   where
-    by : (r : parsing.Answer) → text_answer t ≡ r → onward (At (p + length (with_length (text_body t))) (top_of (text_body t))) r ≡ Stop x → text_answer t ≡ parsed.Refused x
-    by (parsed.Done m) a e = let z : ◌≡◌ {A = ℕ} 0 1 = cc in absurd (omega arith)
-    by (parsed.Refused y) a e = let z : y ≡ x = cc in a ∙ ap parsed.Refused z
+    by : (r : Result Written Refusal) → text_answer t ≡ r → onward (Ok (record { next = p + length (with_length (text_body t)); top = top_of (text_body t) })) r ≡ Err x → text_answer t ≡ Err x
+    by (Ok m) a e = let z : ◌≡◌ {A = ℕ} 0 1 = cc in absurd (omega arith)
+    by (Err y) a e = let z : y ≡ x = cc in a ∙ ap Err z
 
 -- ---- and what the text comes to
 
-module _ (a : Answer) (k p : ℕ) (t : List ℕ) (ts : List (List ℕ)) where
-  pub read_many : k ≡ most_papers → read_from a k p (t ∷ ts) ≡ Many
+module _ (a : Result Found Unread) (k p : ℕ) (t : List ℕ) (ts : List (List ℕ)) where
+  pub read_many : k ≡ most_papers → read_from a k p (t ∷ ts) ≡ (Err Many)
   unfolding read_from
   read_many h = rw (eq-eqb k most_papers h) refl
 
   module _ (h : k ≡ most_papers → ⊥) where
-    pub read_next : (m : Written) → text_answer t ≡ parsed.Done m → read_from a k p (t ∷ ts) ≡ read_from a (k + 1) (p + length t) ts
+    pub read_next : (m : Written) → text_answer t ≡ Ok m → read_from a k p (t ∷ ts) ≡ read_from a (k + 1) (p + length t) ts
     unfolding read_from
     read_next m e = rw (ne_eqb k most_papers h, e) refl
 
-    pub read_bad : (x : Refusal) → text_answer t ≡ parsed.Refused x → read_from a k p (t ∷ ts) ≡ Bad (record { paper = k + 1; start = p; end = p + length t; why = x })
+    pub read_bad : (x : Refusal) → text_answer t ≡ Err x → read_from a k p (t ∷ ts) ≡ Err (Bad (record { paper = k + 1; start = p; end = p + length t; why = x }))
     unfolding read_from
     read_bad x e = rw (ne_eqb k most_papers h, e) refl
 
-pub read_end : (a : Answer) (k p : ℕ) → read_from a k p [] ≡ a
+pub read_end : (a : Result Found Unread) (k p : ℕ) → read_from a k p [] ≡ a
 unfolding read_from
 read_end a k p = refl
 
@@ -86,15 +88,15 @@ header (x ∷ y ∷ z ∷ u ∷ f) j n k h = absurd (omega arith)
 
 -- ---- all texts were read
 
-all_none : (bs : List (List ℕ)) → length bs ≡ 0 → all_read' bs ≡ None
+all_none : (bs : List (List ℕ)) → length bs ≡ 0 → all_read' bs ≡ (Err Empty)
 all_none [] h = refl
 all_none (b ∷ bs) h = absurd (omega arith)
 
-all_done : (bs : List (List ℕ)) → (length bs ≡ 0 → ⊥) → all_read' bs ≡ Done (found_in bs)
+all_done : (bs : List (List ℕ)) → (length bs ≡ 0 → ⊥) → all_read' bs ≡ Ok (found_in bs)
 all_done [] h = absurd (h refl)
 all_done (b ∷ bs) h = refl
 
-found_is : (bs : List (List ℕ)) (n k p : ℕ) → n ≡ top_of_all bs → k ≡ length bs → p ≡ 3 + length (chained bs) → Done (found_in bs) ≡ Done (record { n = n; trees = k; end = p })
+found_is : (bs : List (List ℕ)) (n k p : ℕ) → n ≡ top_of_all bs → k ≡ length bs → p ≡ 3 + length (chained bs) → ◌≡◌ {A = Result Found Unread} (Ok (found_in bs)) (Ok (record { n = n; trees = k; end = p }))
 found_is bs n k p a b c = let d : p ≡ length (bundled (top_of_all bs) bs) = omega arith in rw (a, b, d) refl
 
 -- ---- k texts were read, up to place `at` of the input w, and their bodies fill the store o up to place p; n is their bound
@@ -115,7 +117,7 @@ pub record SoFar (w : List ℕ) (n k at p : ℕ) (o : List ℕ) : Type 0 where
   pub most : p ≤ 3 + (2 + longest) * k
   pub long : length o ≡ longest_collection
 
-pub turn_long : (w : List ℕ) → most_bytes < length w → Long ≡ papers_answer w
+pub turn_long : (w : List ℕ) → most_bytes < length w → (Err Long) ≡ papers_answer w
 unfolding papers_answer
 turn_long w h = rw (lt-ltb most_bytes (length w) h) refl
 
@@ -167,10 +169,10 @@ module _ (w : List ℕ) (n k at p : ℕ) (o : List ℕ) (s : SoFar w n k at p o)
       answer_end : papers_answer w ≡ all_read' (map text_body s.before)
       answer_end = answer_same ∙ ap (read_from (all_read' (bodies_of w)) k at) (texts-none (drop at w) last) ∙ read_end (all_read' (bodies_of w)) k at ∙ ap all_read' all_bodies
 
-      pub turn_none : k ≡ 0 → None ≡ papers_answer w
+      pub turn_none : k ≡ 0 → (Err Empty) ≡ papers_answer w
       turn_none z = sym (answer_end ∙ all_none (map text_body s.before) (counted ∙ z))
 
-      pub turn_done : (k ≡ 0 → ⊥) → Done (record { n = n; trees = k; end = p }) ≡ papers_answer w
+      pub turn_done : (k ≡ 0 → ⊥) → Ok (record { n = n; trees = k; end = p }) ≡ papers_answer w
       turn_done z = sym (answer_end ∙ all_done (map text_body s.before) (λ e. z (sym counted ∙ e)) ∙ found_is (map text_body s.before) n k p s.top (sym counted) filled)
 
       pub turn_held : take p (set (set (set o 0 1) 1 n) 2 k) ≡ bundled n (bodies_of w)
@@ -186,7 +188,7 @@ module _ (w : List ℕ) (n k at p : ℕ) (o : List ℕ) (s : SoFar w n k at p o)
     -- ---- a text is left
 
     module _ (more : all_blank (drop at w) ≡ false) where
-      pub turn_many : k ≡ most_papers → Many ≡ papers_answer w
+      pub turn_many : k ≡ most_papers → (Err Many) ≡ papers_answer w
       turn_many z = sym (answer_same ∙ ap (read_from (all_read' (bodies_of w)) k at) (texts-next (drop at w) more) ∙ read_many (all_read' (bodies_of w)) k at _ _ z)
 
       module _ (z : k ≡ most_papers → ⊥) (e : ℕ) (h : e ≡ at + span (drop at w)) where
@@ -210,12 +212,12 @@ module _ (w : List ℕ) (n k at p : ℕ) (o : List ℕ) (s : SoFar w n k at p o)
         pub turn_less : at < e
         turn_less = omega (arith, span_some (drop at w) more)
 
-        pub turn_bad : (x : Refusal) → next_of text p ≡ Stop x → Bad (record { paper = k + 1; start = at; end = e; why = x }) ≡ papers_answer w
+        pub turn_bad : (x : Refusal) → next_of text p ≡ Err x → Err (Bad (record { paper = k + 1; start = at; end = e; why = x })) ≡ papers_answer w
         turn_bad x q =
             sym (answer_same ∙ ap (read_from (all_read' (bodies_of w)) k at) onto ∙ read_bad (all_read' (bodies_of w)) k at text (texts (drop e w)) z x (stop_refused text p x q)
-            ∙ ap (λ (f : ℕ). Bad (record { paper = k + 1; start = at; end = f; why = x })) behind)
+            ∙ ap (λ (f : ℕ). Err (Bad (record { paper = k + 1; start = at; end = f; why = x }))) behind)
 
-        pub turn_next : (q m : ℕ) → next_of text p ≡ At q m → (n' : ℕ) → n' ≡ max n m → (o' : List ℕ) → o' ≡ sets o p (with_length (text_body text)) → SoFar w n' (k + 1) e q o'
+        pub turn_next : (q m : ℕ) → next_of text p ≡ Ok (record { next = q; top = m }) → (n' : ℕ) → n' ≡ max n m → (o' : List ℕ) → o' ≡ sets o p (with_length (text_body text)) → SoFar w n' (k + 1) e q o'
         turn_next q m g n' l o' d =
             let b = text_body text in
             let r = at_read text p q m g in

@@ -13,7 +13,8 @@ use Rattle.highest.specs.Bound.{top_among, top_of_all}
 use Rattle.papers.specs.Bundled.{bundled, chained}
 use Rattle.papers.specs.Reads.{bodies_of, papers_answer, read_from, text_answer}
 use Rattle.texts.specs.Texts.{all_blank, span, texts, texts_in}
-use Rattle.papers.specs.declared.Answer.TheVariants.{Bad, Done, Many, None}
+use Rattle.papers.specs.declared.Unread.TheVariants.{Bad, Empty, Many}
+use Rattle.std.specs.Prelude.{Ok, Err}
 
 -- ((0,1),2);((0,1),(3,(4,5))); and a byte 10
 abbrev two : List ℕ
@@ -26,18 +27,18 @@ unfolding texts texts_in span all_blank chained scan_from act past_limit sign
 papers-bundled = refl
 
 pub papers-answered :
-    (papers_answer two ≡ Done (record { n = 6; trees = 2; end = 35 }))
+    (papers_answer two ≡ Ok (record { n = 6; trees = 2; end = 35 }))
     -- nothing, and a space and a byte 10
-    × (papers_answer [] ≡ None)
-    × (papers_answer (32 ∷ 10 ∷ []) ≡ None)
+    × (papers_answer [] ≡ (Err Empty))
+    × (papers_answer (32 ∷ 10 ∷ []) ≡ (Err Empty))
     -- 0; sixteen times, and seventeen times
-    × (papers_answer (times 16 (48 ∷ 59 ∷ []) []) ≡ Done (record { n = 1; trees = 16; end = 67 }))
-    × (papers_answer (times 17 (48 ∷ 59 ∷ []) []) ≡ Many)
+    × (papers_answer (times 16 (48 ∷ 59 ∷ []) []) ≡ Ok (record { n = 1; trees = 16; end = 67 }))
+    × (papers_answer (times 17 (48 ∷ 59 ∷ []) []) ≡ (Err Many))
     -- ((0,1),2;
-    × (papers_answer (40 ∷ 40 ∷ 48 ∷ 44 ∷ 49 ∷ 41 ∷ 44 ∷ 50 ∷ 59 ∷ []) ≡ Bad (record { paper = 1; start = 0; end = 9; why = BadText 8 }))
+    × (papers_answer (40 ∷ 40 ∷ 48 ∷ 44 ∷ 49 ∷ 41 ∷ 44 ∷ 50 ∷ 59 ∷ []) ≡ Err (Bad (record { paper = 1; start = 0; end = 9; why = BadText 8 })))
     -- 0;1 without a second semicolon
-    × (papers_answer (48 ∷ 59 ∷ 49 ∷ []) ≡ Bad (record { paper = 2; start = 2; end = 3; why = BadText 1 }))
+    × (papers_answer (48 ∷ 59 ∷ 49 ∷ []) ≡ Err (Bad (record { paper = 2; start = 2; end = 3; why = BadText 1 })))
     -- 0; 64;
-    × (papers_answer (48 ∷ 59 ∷ 32 ∷ 54 ∷ 52 ∷ 59 ∷ []) ≡ Bad (record { paper = 2; start = 2; end = 6; why = BadTree (record { tree = 0; node = 0; fault = BadSpecies 64 }) }))
+    × (papers_answer (48 ∷ 59 ∷ 32 ∷ 54 ∷ 52 ∷ 59 ∷ []) ≡ Err (Bad (record { paper = 2; start = 2; end = 6; why = BadTree (record { tree = 0; node = 0; fault = BadSpecies 64 }) })))
 unfolding papers_answer read_from text_answer texts texts_in span all_blank top_among top_of_all chained scan_from act past_limit sign fault first_break seen children
 papers-answered = (refl, refl, refl, refl, refl, refl, refl, refl)

@@ -5,19 +5,19 @@ use Rattle.answers.specs.declared.Written.{Written}
 use Rattle.collections.specs.Collection.{Collection}
 use Rattle.collections.specs.Layout.{body_at, longest_collection, species, trees}
 use Rattle.parsing.specs.Parses.{text_body}
-use Rattle.parsing.specs.declared.Answer.TheVariants as parsed
 use Rattle.highest.specs.Bound.{top_of_all}
 use Rattle.papers.specs.Bundled.{bundled}
 use Rattle.papers.specs.Reads.{bodies_of, most_bytes, most_papers, text_answer}
 use Rattle.texts.specs.Texts.{texts}
-use Rattle.papers.specs.declared.Answer.{Answer}
-use Rattle.papers.specs.declared.Answer.TheVariants.{Bad, Done, Long, Many, None}
 use Rattle.papers.specs.declared.Bad as refused
 use Rattle.papers.specs.declared.Found.{Found}
+use Rattle.papers.specs.declared.Unread.TheVariants.{Bad, Empty, Long, Many}
+use Rattle.papers.specs.declared.Unread.{Unread}
+use Rattle.std.specs.Prelude.{Ok, Err, Result}
 
 -- the text is read
 abbrev pub IsRead : List ℕ → Type 0
-IsRead t = (m : Written) × (text_answer t ≡ parsed.Done m)
+IsRead t = (m : Written) × (text_answer t ≡ Ok m)
 
 -- text number k, from 0
 abbrev pub text_at : List ℕ → ℕ → List ℕ
@@ -50,7 +50,7 @@ pub record FirstBad (w : List ℕ) (x : refused.Bad) : Type 0 where
   pub there : number < length (texts w)
   pub few : number < most_papers
   pub earlier : (k : ℕ) → k < number → IsRead (text_at w k)
-  pub refused : text_answer (text_at w number) ≡ parsed.Refused x.why
+  pub refused : text_answer (text_at w number) ≡ Err x.why
   -- it begins behind the texts before it
   pub start_is : x.start ≡ length (flatten (take number (texts w)))
   pub end_is : x.end ≡ x.start + length (text_at w number)
@@ -58,9 +58,9 @@ pub record FirstBad (w : List ℕ) (x : refused.Bad) : Type 0 where
   pub bytes : take (x.end - x.start) (drop x.start w) ≡ text_at w number
 
 -- what the answer r says
-abbrev pub Says : List ℕ → Answer → Type 0
-Says w (Done f) = EachRead w f
-Says w Long = most_bytes < length w
-Says w None = length (texts w) ≡ 0
-Says w Many = (most_papers < length (texts w)) × ((k : ℕ) → k < most_papers → IsRead (text_at w k))
-Says w (Bad x) = FirstBad w x
+abbrev pub Says : List ℕ → Result Found Unread → Type 0
+Says w (Ok f) = EachRead w f
+Says w (Err Long) = most_bytes < length w
+Says w (Err Empty) = length (texts w) ≡ 0
+Says w (Err Many) = (most_papers < length (texts w)) × ((k : ℕ) → k < most_papers → IsRead (text_at w k))
+Says w (Err (Bad x)) = FirstBad w x

@@ -7,6 +7,8 @@ ghost use Rattle.collections.specs.Layout.{longest_collection};
 ghost use Rattle.papers.specs.OneText.{Laid, next_of};
 ghost use Rattle.papers.specs.Reads.{Stored, papers_answer};
 
+use refusals::Refusal;
+
 // The most bytes of an input, and the most papers.
 pub const MOST_BYTES: usize = 65536;
 
@@ -29,93 +31,81 @@ pub struct Bad {
     pub paper: usize,
     pub start: usize,
     pub end: usize,
-    pub why: refusals::Refusal,
+    pub why: Refusal,
 }
 
+// Why an input is not read.
 #[derive(Clone, Copy)]
-pub enum Answer {
-    Done(Found),
+pub enum Unread {
     Long,
-    None,
+    Empty,
     Many,
     Bad(Bad),
 }
 
-// After one text: where the next body goes, and this body's bound; or the refusal.
+// Behind one text: where the next body goes, and the bound of this one.
 #[derive(Clone, Copy)]
-enum Next {
-    At(usize, usize),
-    Stop(refusals::Refusal),
+struct Behind {
+    next: usize,
+    top: usize,
 }
 
 // Reads one text: its body goes to place p of the store, with its two length bytes.
-fn one_text(text: &[u8], store: &mut [u8], p: usize) -> Next
+fn one_text(text: &[u8], store: &mut [u8], p: usize) -> Result<Behind, Refusal>
     requires { p + 2 + longest ≤ length store.old }
     ensures value { (result ≡ next_of text.now p) × Laid text.now p store.old result store.new }
     ensures store_len_unchanged { length store.new ≡ length store.old }
 {
     let from = p + 2;
-    let r = parsing::parse(SPECIES, text, &mut store[from..]);
-    match r {
-        parsing::Answer::Done(x) => {
-            let nodes = x.nodes;
-            let l = bodies::body_length(nodes);
-            store[p] = 0;
-            store[p + 1] = l as u8;
-            let end = from + l;
-            Next::At(end, highest::top(&store[from..end]))
-        }
-        parsing::Answer::Refused(x) => Next::Stop(x),
-    }
+    let parsed = parsing::parse(SPECIES, text, &mut store[from..])?;
+    let l = bodies::body_length(parsed.nodes);
+    store[p] = 0;
+    store[p + 1] = l as u8;
+    let next = from + l;
+    let top = highest::top(&store[from..next]);
+    Ok(Behind { next, top })
 }
 
 // Reads the texts of the input into a collection, at the front of the store. After a refusal nothing is said of the store.
-pub fn read(input: &[u8], store: &mut [u8; collections::LONGEST]) -> Answer
+pub fn read(input: &[u8], store: &mut [u8; collections::LONGEST]) -> Result<Found, Unread>
     requires { length store.old ≡ longest_collection }
     ensures value { result ≡ papers_answer input.now }
     ensures stored { Stored input.now result store.new × (length store.new ≡ longest_collection) }
 {
     if input.len() > MOST_BYTES {
-        return Answer::Long;
+        return Err(Unread::Long);
     }
     let mut n = 0;
     let mut trees = 0;
     let mut at = 0;
     let mut p = 3;
-    loop {
-        if texts::blanks_only(input, at) {
-            if trees == 0 {
-                return Answer::None;
-            }
-            store[0] = 1;
-            store[1] = n as u8;
-            store[2] = trees as u8;
-            return Answer::Done(Found {
-                n: n,
-                trees: trees,
-                end: p,
-            });
-        }
+    while !texts::blanks_only(input, at) {
         if trees == MOST {
-            return Answer::Many;
+            return Err(Unread::Many);
         }
         let end = texts::text_end(input, at);
-        let x = one_text(&input[at..end], store, p);
-        match x {
-            Next::At(q, m) => {
-                n = highest::higher(n, m);
-                p = q;
+        match one_text(&input[at..end], store, p) {
+            Ok(x) => {
+                n = n.max(x.top);
+                p = x.next;
             }
-            Next::Stop(why) => {
-                return Answer::Bad(Bad {
+            Err(why) => {
+                return Err(Unread::Bad(Bad {
                     paper: trees + 1,
                     start: at,
-                    end: end,
-                    why: why,
-                });
+                    end,
+                    why,
+                }));
             }
         }
         trees += 1;
         at = end;
     }
+    if trees == 0 {
+        return Err(Unread::Empty);
+    }
+    store[0] = 1;
+    store[1] = n as u8;
+    store[2] = trees as u8;
+    Ok(Found { n, trees, end: p })
 }

@@ -1,28 +1,26 @@
 -- The lines of the papers, one by one. Assumes nothing.
-use mathlib.Core.List.{List}
-use mathlib.Core.Path.{◌≡◌}
+use mathlib.Core.List.{List, [], ◌++◌}
+use mathlib.Core.Path.{◌∙◌, ◌≡◌, ap, refl, sym}
 use Prim.Native.Nat.{ℕ, ◌+◌}
 use native.Mathlib.Numerals.{add-one}
 use Rattle.collections.specs.Layout.{body_at}
-use Rattle.writing.proofs.Writing.{writes_both, writes_nothing}
-use Rattle.writing.specs.Writes.{Writes}
 use Rattle.papers_text.specs.Lines.{paper_line, papers_text, side_line, sides_text}
 
-module _ (c o : List ℕ) (at : ℕ) where
-  pub papers-none : Writes o at (papers_text c 0) o at
+module _ (c : List ℕ) where
+  pub papers-none : papers_text c 0 ≡ []
   unfolding papers_text
-  papers-none = writes_nothing o at
+  papers-none = refl
 
-  pub sides-none : (u : ℕ) → Writes o at (sides_text u c 0) o at
+  pub sides-none : (u : ℕ) → sides_text u c 0 ≡ []
   unfolding sides_text
-  sides-none u = writes_nothing o at
+  sides-none u = refl
 
   -- one line more, of the body b
-  module _ (k : ℕ) (b : List ℕ) (e : b ≡ body_at c k) (o' o'' : List ℕ) (m r : ℕ) where
-    pub papers-next : Writes o at (papers_text c k) o' m → Writes o' m (paper_line k b) o'' r → Writes o at (papers_text c (k + 1)) o'' r
+  module _ (k : ℕ) (b : List ℕ) (e : b ≡ body_at c k) where
+    pub papers-next : papers_text c (k + 1) ≡ papers_text c k ++ paper_line k b
     unfolding papers_text
-    papers-next x y = rw (add-one k) (writes_both x (rw (← e) y))
+    papers-next = ap (papers_text c) (add-one k) ∙ ap (λ (x : List ℕ). papers_text c k ++ paper_line k x) (sym e)
 
-    pub sides-next : (u : ℕ) → Writes o at (sides_text u c k) o' m → Writes o' m (side_line u k b) o'' r → Writes o at (sides_text u c (k + 1)) o'' r
+    pub sides-next : (u : ℕ) → sides_text u c (k + 1) ≡ sides_text u c k ++ side_line u k b
     unfolding sides_text
-    sides-next u x y = rw (add-one k) (writes_both x (rw (← e) y))
+    sides-next u = ap (sides_text u c) (add-one k) ∙ ap (λ (x : List ℕ). sides_text u c k ++ side_line u k x) (sym e)

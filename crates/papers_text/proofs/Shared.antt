@@ -1,9 +1,8 @@
 -- What a paper says of the species of a set u, where its body is good: from three shared species on the cut tree. Assumes nothing.
-use mathlib.Core.List.{List, ◌++◌}
+use mathlib.Core.List.{List}
 use mathlib.Core.Path.{◌∙◌, ◌≡◌, ap, refl}
 use Prim.Native.Nat.{ℕ, ◌<◌, ◌≤◌}
 use native.Mathlib.Omega.{arith}
-use borrow.Author.Tests.{le-leb, lt-leb}
 use lib.ListN.{get_or}
 use Rattle.sets.proofs.Sizes.{size_empty}
 use Rattle.sets.specs.Sets.{has, meet, size}
@@ -14,10 +13,8 @@ use Rattle.bodies.specs.Draws.{tree_of}
 use Rattle.bodies.specs.Nodes.{nodes}
 use Rattle.groups.specs.Groups.{Groups, set_of}
 use Rattle.answers.specs.Inputs.{Body}
-use Rattle.writing.specs.Texts.{ended}
 use Rattle.cutting.proofs.Touching.{meet_touches}
-use Rattle.papers_text.specs.Lines.{cut_line', numbered, shared, side_line}
-use Rattle.papers_text.specs.Words.{silent_words}
+use Rattle.papers_text.specs.Lines.{shared}
 
 module _ (b : List ℕ) (g : Body 64 b) where
   pub some_nodes : 0 < (nodes b).count
@@ -28,13 +25,7 @@ module _ (b : List ℕ) (g : Body 64 b) where
   counted l u m r h p q = q ∙ ap size (p ∙ ap (λ (s : ℕ). meet s u) (h.group 0 some_nodes))
 
   module _ (u : ℕ) where
-    pub silent_line : (k : ℕ) → shared u b < 3 → numbered k ++ ended silent_words ≡ side_line u k b
-    silent_line k h = rw (lt-leb 3 (shared u b) h) refl
-
     -- three species are shared, or more
     module _ (h : 3 ≤ shared u b) where
-      pub cut_line : (k : ℕ) → numbered k ++ cut_line' u b ≡ side_line u k b
-      cut_line k = rw (le-leb 3 (shared u b) h) refl
-
       pub shares : Touches (has u) (tree_of b)
       shares = meet_touches (tree_of b) (tree_below 64 (nodes b) g.good some_nodes) (set_of (tree_of b)) refl u (λ z. omega (arith, h, ap size z, size_empty))

@@ -1,3 +1,2 @@
 -- Laws of reading Newick text.
-pub mod Answered
 pub mod Texts

@@ -3,17 +3,16 @@
 use Rattle.std.specs.Prelude.{List, [], ◌∷◌, ℕ, ◌-◌, ltb, length}
 use Rattle.bodies.specs.Nodes.{nodes}
 use Rattle.bodies.specs.Draws.{written}
-use Rattle.refusals.specs.Told.{Told, number_of_nodes, told, value}
-use Rattle.answers.specs.Looks.{Settled, after, answered, first_refusal, look_count, look_room, look_rules, refuse_if}
-use Rattle.refusals.specs.Refusals.{refusal_told}
-use Rattle.answers.specs.declared.Look.{Look}
-use Rattle.answers.specs.declared.Look.TheVariants.{Pass, Refuse}
+use Rattle.refusals.specs.Told.{Told}
+use Rattle.answers.specs.Looks.{Settled, after, answered, first_refusal, look_count, look_room, look_rules, refuse_if, written_told}
+use Rattle.refusals.specs.Refusals.{told_by}
+use Rattle.answers.specs.Looks.{Look}
 use Rattle.refusals.specs.declared.Refusal.TheVariants.{BadText}
 use Rattle.answers.specs.declared.Written.{Written}
 use Rattle.newick.specs.Scan.{Scanned, scan, stuck, taken}
 use Rattle.newick.specs.Texts.{longest_text}
-use Rattle.parsing.specs.declared.Answer.{Answer}
-use Rattle.parsing.specs.declared.Answer.TheVariants.{Done, Refused}
+use Rattle.std.specs.Prelude.{Ok, Err, Result}
+use Rattle.refusals.specs.declared.Refusal.{Refusal}
 
 -- 14 for "text over length (place 4,096, before any other place)"
 abbrev pub look_long : ℕ → Look
@@ -21,8 +20,8 @@ look_long l = refuse_if (ltb longest_text l) (BadText longest_text)
 
 -- 14 for a text "against these rules or limits": of l bytes those from the place on are left
 abbrev pub placed : ℕ → Scanned → Look
-placed l (taken b) = Pass
-placed l (stuck k) = Refuse (BadText (l - k))
+placed l (taken b) = Ok tt
+placed l (stuck k) = Err (BadText (l - k))
 
 abbrev pub look_form : List ℕ → Look
 look_form w = placed (length w) (scan w)
@@ -43,8 +42,8 @@ body_looks n b l = look_rules 0 n b ∷ look_room (length b) l ∷ []
 abbrev pub body_done : List ℕ → Written
 body_done b = record { nodes = (nodes b).count }
 
-abbrev pub Puts : ℕ → List ℕ → List ℕ → Answer → List ℕ → Type 0
-Puts n b o r o' = Settled Done Refused (body_looks n b (length o)) (body_done b) (written o b) o r o'
+abbrev pub Puts : ℕ → List ℕ → List ℕ → Result Written Refusal → List ℕ → Type 0
+Puts n b o r o' = Settled Ok Err (body_looks n b (length o)) (body_done b) (written o b) o r o'
 
 -- ---- the operation, for the text w
 
@@ -59,15 +58,14 @@ abbrev pub parse_room : List ℕ → List ℕ → List ℕ
 parse_room w o = written o (text_body w)
 
 -- o is the room before, r the answer, o' the room after
-abbrev pub Parses : ℕ → List ℕ → List ℕ → Answer → List ℕ → Type 0
-Parses n w o r o' = Settled Done Refused (parse_looks n w (length o)) (parse_done w) (parse_room w o) o r o'
+abbrev pub Parses : ℕ → List ℕ → List ℕ → Result Written Refusal → List ℕ → Type 0
+Parses n w o r o' = Settled Ok Err (parse_looks n w (length o)) (parse_done w) (parse_room w o) o r o'
 
-abbrev pub parse_answer : ℕ → List ℕ → ℕ → Answer
-parse_answer n w l = answered Done Refused (first_refusal (parse_looks n w l)) (parse_done w)
+abbrev pub parse_answer : ℕ → List ℕ → ℕ → Result Written Refusal
+parse_answer n w l = answered Ok Err (first_refusal (parse_looks n w l)) (parse_done w)
 
 abbrev pub parse_after : ℕ → List ℕ → List ℕ → List ℕ
 parse_after n w o = after (first_refusal (parse_looks n w (length o))) (parse_room w o) o
 
-abbrev pub parse_told : Answer → Told
-parse_told (Done w) = told 0 (value number_of_nodes w.nodes ∷ [])
-parse_told (Refused x) = refusal_told x
+abbrev pub parse_told : Result Written Refusal → Told
+parse_told = told_by written_told

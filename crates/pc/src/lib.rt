@@ -1,9 +1,10 @@
 // PC: the first triple on which an entered triplet differs from what a tree says.
 #![tactic(auto)]
 
-ghost use Rattle.std.specs.Prelude.{◌≡◌, ◌≤◌};
+ghost use Rattle.std.specs.Prelude.{◌≡◌, ◌<◌, ◌≤◌, ℕ};
 ghost use Rattle.trees.specs.Check.{differs};
 ghost use Rattle.trees.specs.Trees.{Tree};
+ghost use Rattle.trees.specs.Triplets.{on_triple};
 ghost use Rattle.tables.specs.Bytes.{entered};
 ghost use Rattle.groups.specs.Groups.{Candidate};
 ghost use Rattle.triples.specs.Finds.{Finds};
@@ -23,42 +24,13 @@ fn against(s: groups::Says, e: tables::Bits) -> bool
 }
 
 // The first triple in index order on which an entered triplet differs from what the tree says.
-pub fn first_contradiction(
-    n: usize,
-    t: &[u8],
-    whole: u64,
-    meets: &[u64; groups::CELLS],
-) -> triples::Found
+pub fn first_contradiction(n: usize, t: &[u8], d: groups::Drawing) -> Option<triples::Triple>
     requires { n ≤ 64 }
-    ensures { (T : Tree) → Candidate n T whole meets.now → Finds n (differs (entered t.now) T) result }
+    ensures { (T : Tree) → Candidate n T d.entry.whole d.entry.meets.now → Finds n (differs (entered t.now) T) result }
 {
-    let mut found = false;
-    let mut x = 0;
-    let mut y = 0;
-    let mut z = 0;
-    'search: for c in 0..n {
-        for b in 0..c {
-            for a in 0..b {
-                if against(
-                    groups::ask(whole, meets, a, b, c),
-                    tables::bits_of(t, a, b, c),
-                ) {
-                    found = true;
-                    x = a;
-                    y = b;
-                    z = c;
-                    break 'search;
-                }
-            }
-        }
-    }
-    if found {
-        triples::Found::At(triples::Triple {
-            low: x,
-            mid: y,
-            high: z,
-        })
-    } else {
-        triples::Found::Nowhere
-    }
+    let differs = |a, b, c|
+        requires { (a < b) × (b < c) × (c < 64) }
+        ensures { (N : ℕ) (T : Tree) → Candidate N T d.entry.whole d.entry.meets.now → result ≡ on_triple (differs (entered t.entry.now) T) a b c }
+    { against(d.ask(a, b, c), tables::bits_of(t, a, b, c)) };
+    triples::first(n, differs)
 }

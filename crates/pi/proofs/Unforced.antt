@@ -3,11 +3,11 @@ use mathlib.Core.Bool.{Bool, So, ◌&&◌, false, not, or-false, true}
 use mathlib.Core.List.{List}
 use mathlib.Core.Logic.{◌≢◌}
 use mathlib.Core.Path.{◌∙◌, ◌≡◌, ap, refl, subst, sym}
-use Prim.Native.Nat.{◌+◌, ◌<◌, ℕ}
+use Prim.Native.Nat.{◌+◌, ℕ}
 use native.Mathlib.Omega.{arith}
 use borrow.Author.Tests.{not-true}
 use lib.ListN.{length}
-use Rattle.sets.proofs.Bools.{and_i, not_i, or_case, or_l, or-none, or_r, test}
+use Rattle.sets.proofs.Bools.{and_i, not_i, or_case, or_l, or_r, test}
 use Rattle.sets.proofs.Tests.{number_is}
 use Rattle.sets.specs.Sets.{has}
 use Rattle.sets.specs.Species.{Below, Inside, Species, either, members}
@@ -22,18 +22,12 @@ use Rattle.trees.proofs.Triples.{swap_same}
 use Rattle.trees.specs.Check.{R, core, sure, unsure}
 use Rattle.trees.specs.Trees.{Siblings, Tree, under}
 use Rattle.trees.specs.Triplets.{Triplets, different, holds, on_triple}
-use Rattle.triples.specs.Index.{index}
 use Rattle.groups.proofs.Common.{common_e, common_i}
 use Rattle.groups.proofs.Meant.{says_exactly}
-use Rattle.groups.specs.Groups.{SaysRight, common, cell, cells, says}
+use Rattle.groups.specs.Groups.{SaysRight, common, cell, says}
 use Rattle.groups.specs.declared.Says.{Says}
 use Rattle.groups.specs.declared.Says.TheVariants.{AB, AC, BC}
-use Rattle.masks.proofs.Triples.{is_triplet-says}
-use Rattle.masks.specs.Filling.{is_triplet}
-use Rattle.pi.specs.Cores.{IsCore, Memo, Uncontradicted}
-use Rattle.triples.specs.Finds.{Finds}
-use Rattle.triples.specs.declared.Found.TheVariants.{At}
-use Rattle.triples.proofs.Search.{Clear, clear_next, finds_at}
+use Rattle.pi.specs.Cores.{IsCore, Uncontradicted}
 
 -- the smallest common group of two species has the two siblings where they part ways
 common_near : (T s s' : Tree) → Formed T → Siblings T s s' → (a c : ℕ) → So (under s a) → So (under s' c) → Inside (either (under s) (under s')) (common T a c)
@@ -66,9 +60,6 @@ module _ (H S : Triplets) (a b c : ℕ) where
 
   three : (x : Bool) → H a b c ≡ false → H a c b ≡ false → H b c a ≡ true → S b c a ≡ x → not x ≡ speaks
   three x e f g k = rw (e, f, g, k) refl
-
-  none : H a b c ≡ false → H a c b ≡ false → H b c a ≡ false → false ≡ speaks
-  none e f g = rw (e, f, g) refl
 
 module _ (E : Triplets) (n : ℕ) (T : Tree) (whole : ℕ) (meets masks : List ℕ) (u : Uncontradicted E n T whole meets masks) where
   w : Formed T
@@ -125,24 +116,3 @@ module _ (E : Triplets) (n : ℕ) (T : Tree) (whole : ℕ) (meets masks : List �
         three (holds T) (sure E n T) a b c (has x c) (swap_same (holds T) (holds_proper T) a b c ∙ other b c a h) (swap_same (holds T) (holds_proper T) a c b ∙ other_swap b c a h) h
         (sure-core E u.proper n T w u.tree.below agrees b c a (has x)
         (core_turn (R E T) (under T) a b (has x) (near_core a b x (λ q. o.ac (sym q)) o.in_c o.in_a k)) h)
-
-    pub look_none : is_triplet s ≡ false → false ≡ on_triple (unsure E n T) a b c
-    look_none e =
-        let f = or-none (holds T a b c) _ (sym (is_triplet-says T a b c) ∙ ap is_triplet (sym is) ∙ e) in
-        let g = or-none (holds T a c b) (holds T b c a) f.1 in
-        none (holds T) (sure E n T) a b c f.0 g.0 g.1
-
--- ---- the search
-
--- what was found of the cores is right, and every triple before place i is forced
-abbrev pub Upto : ℕ → ℕ → List ℕ → List ℕ → List ℕ → ℕ → Type 0
-Upto n whole meets masks cores i = (length cores ≡ cells)
-    × ((E : Triplets) (T : Tree) → Uncontradicted E n T whole meets masks → Memo (R E T) meets cores × Clear n (unsure E n T) i)
-
--- r tells whether P is silent on a < b < c
-module _ (n : ℕ) (P : Triplets) (a b c : ℕ) (p : a < b) (q : b < c) (l : c < n) (r : Bool) (is : not r ≡ on_triple P a b c) (h : Clear n P (index a b c)) where
-  pub ends_here : not r ≡ true → Finds n P (At (record { low = a; mid = b; high = c }))
-  ends_here e = finds_at n P a b c p q l (sym is ∙ e) h
-
-  pub goes_on : not r ≡ false → Clear n P (index (a + 1) b c)
-  goes_on e = clear_next n P a b c p q l (sym is ∙ e) h

@@ -1,15 +1,15 @@
 // PI where some group is not earned: the first triple whose triplet in the tree is not forced, by cores.
 #![tactic(auto)]
 
-ghost use Rattle.std.specs.Prelude.{◌≡◌, ◌<◌, ◌≤◌, length};
+ghost use Rattle.std.specs.Prelude.{◌≡◌, ◌<◌, ◌≤◌, ℕ, length};
 ghost use Rattle.std.proofs.Math.Bool.{So};
 ghost use Rattle.sets.specs.Sets.{has, Subset};
-ghost use Rattle.trees.specs.Check.{unsure, pair};
+ghost use Rattle.trees.specs.Check.{R, unsure, pair};
 ghost use Rattle.trees.specs.Trees.{Tree};
-ghost use Rattle.trees.specs.Triplets.{Triplets, Proper};
+ghost use Rattle.trees.specs.Triplets.{Triplets, Proper, on_triple};
 ghost use Rattle.groups.specs.Groups.{cells};
 ghost use Rattle.masks.specs.Masks.{Masks};
-ghost use Rattle.pi.specs.Cores.{IsCore, Recalls, Decides, Uncontradicted};
+ghost use Rattle.pi.specs.Cores.{IsCore, Memo, Recalls, Decides, Uncontradicted};
 ghost use Rattle.triples.specs.Finds.{Finds};
 
 // The parts of a and of c in s, together. Never more than s, whatever the masks are, so that the chain ends.
@@ -61,8 +61,7 @@ fn core_of(
 
 // Is the triplet of the tree on a < b < c forced? One look at a core tells. A fan has no triplet, nor have species that are not all here.
 fn sure_at(
-    whole: u64,
-    meets: &[u64; groups::CELLS],
+    d: groups::Drawing,
     masks: &[u64; groups::CELLS],
     cores: &mut [u64; groups::CELLS],
     a: usize,
@@ -71,13 +70,12 @@ fn sure_at(
 ) -> bool
     requires { (a < b) × (b < c) × (c < 64) × (length cores.old ≡ cells) }
     ensures cores_len { length cores.new ≡ cells }
-    ensures decides { Decides whole meets.now masks.now cores.old cores.new a b c result }
+    ensures decides { Decides d.entry.whole d.entry.meets.now masks.now cores.old cores.new a b c result }
 {
-    let said = groups::ask(whole, meets, a, b, c);
-    match said {
-        groups::Says::AB => sets::has(core_of(masks, meets, cores, a, c), b),
-        groups::Says::AC => sets::has(core_of(masks, meets, cores, a, b), c),
-        groups::Says::BC => sets::has(core_of(masks, meets, cores, a, b), c),
+    match d.ask(a, b, c) {
+        groups::Says::AB => sets::has(core_of(masks, d.meets, cores, a, c), b),
+        groups::Says::AC => sets::has(core_of(masks, d.meets, cores, a, b), c),
+        groups::Says::BC => sets::has(core_of(masks, d.meets, cores, a, b), c),
         groups::Says::Fan => true,
         groups::Says::Absent => true,
     }
@@ -86,26 +84,17 @@ fn sure_at(
 // The first triple in index order whose triplet in the tree is not forced, for a tree that nothing contradicts.
 pub fn first_unforced(
     n: usize,
-    whole: u64,
-    meets: &[u64; groups::CELLS],
+    d: groups::Drawing,
     masks: &[u64; groups::CELLS],
-) -> triples::Found
+) -> Option<triples::Triple>
     requires { n ≤ 64 }
-    ensures { (E : Triplets) (T : Tree) → Uncontradicted E n T whole meets.now masks.now → Finds n (unsure E n T) result }
+    ensures { (E : Triplets) (T : Tree) → Uncontradicted E n T d.entry.whole d.entry.meets.now masks.now → Finds n (unsure E n T) result }
 {
     let mut cores = [0; groups::CELLS];
-    for c in 0..n {
-        for b in 0..c {
-            for a in 0..b {
-                if !sure_at(whole, meets, masks, &mut cores, a, b, c) {
-                    return triples::Found::At(triples::Triple {
-                        low: a,
-                        mid: b,
-                        high: c,
-                    });
-                }
-            }
-        }
-    }
-    triples::Found::Nowhere
+    let unforced = |a, b, c|
+        requires { (a < b) × (b < c) × (c < 64) × (length cores ≡ cells) }
+        ensures cores_len { length cores.exit ≡ cells }
+        ensures decides { (E : Triplets) (N : ℕ) (T : Tree) → Uncontradicted E N T d.entry.whole d.entry.meets.now masks.entry.now → Memo (R E T) d.entry.meets.now cores.entry → Memo (R E T) d.entry.meets.now cores.exit × (result ≡ on_triple (unsure E N T) a b c) }
+    { !sure_at(d, masks, &mut cores, a, b, c) };
+    triples::first(n, unforced)
 }

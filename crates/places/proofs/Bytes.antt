@@ -1,5 +1,6 @@
 -- Where a node begins, by its byte, and where a subtree may begin behind a byte. Assumes nothing.
-use mathlib.Core.Bool.{Bool, So, false, false≢true, true}
+use mathlib.Core.Logic.{◌⊎◌, inl, inr}
+use mathlib.Core.Bool.{and-false, and-true, Bool, ◌&&◌, cond, false, false≢true, true}
 use mathlib.Core.Path.{◌∙◌, ◌≡◌, ap, refl, sym}
 use Prim.Native.Nat.{ℕ}
 use Rattle.newick.specs.Form.{blank, digit}
@@ -10,41 +11,35 @@ use Rattle.places.specs.NodePlaces.{fresh_at}
 
 -- ---- with which byte a node begins
 
-begins_not_fresh : (p : Spot) (g : Sign) → fresh_at p ≡ false → 0 ≡ node_begins p g
-begins_not_fresh fresh g e = absurd (false≢true (sym e))
-begins_not_fresh (in_number v) g e = refl
-begins_not_fresh elsewhere g e = refl
-
-pub no_node_elsewhere : (b : ℕ) (r : Bool) → r ≡ false → (p : Spot) → fresh_at p ≡ r → 0 ≡ node_begins p (sign b)
-no_node_elsewhere b r h p e = begins_not_fresh p (sign b) (e ∙ h)
-
 -- what is so of the fresh spot is so of each spot that is fresh
-at_fresh : (n : ℕ) (g : Sign) → n ≡ node_begins fresh g → (r : Bool) → r ≡ true → (p : Spot) → fresh_at p ≡ r → n ≡ node_begins p g
-at_fresh n g h r e fresh k = h
-at_fresh n g h r e (in_number v) k = absurd (false≢true (k ∙ e))
-at_fresh n g h r e elsewhere k = absurd (false≢true (k ∙ e))
+at_fresh : (n : ℕ) (g : Sign) → n ≡ node_begins fresh g → (p : Spot) → fresh_at p ≡ true → n ≡ node_begins p g
+at_fresh n g h fresh k = h
+at_fresh n g h (in_number v) k = absurd (false≢true k)
+at_fresh n g h elsewhere k = absurd (false≢true k)
 
 module _ (b : ℕ) where
-  pub opening_begins : b ≡ 40 → (r : Bool) → r ≡ true → (p : Spot) → fresh_at p ≡ r → 1 ≡ node_begins p (sign b)
+  pub opening_begins : b ≡ 40 → (p : Spot) → fresh_at p ≡ true → 1 ≡ node_begins p (sign b)
   unfolding sign
   opening_begins e = at_fresh 1 (sign b) (ap (λ (x : ℕ). node_begins fresh (sign x)) (sym e))
 
-  pub digit_begins : So (digit b) → (r : Bool) → r ≡ true → (p : Spot) → fresh_at p ≡ r → 1 ≡ node_begins p (sign b)
-  digit_begins h = at_fresh 1 (sign b) (ap (node_begins fresh) (sym (digit-sign b h)))
-
-  pub none_begins : (b ≡ 40 → ⊥) → digit b ≡ false → (r : Bool) → r ≡ true → (p : Spot) → fresh_at p ≡ r → 0 ≡ node_begins p (sign b)
-  none_begins e h = at_fresh 0 (sign b) (by (sign b) (shows b))
+  -- any other byte
+  pub other_begins : (b ≡ 40 → ⊥) → (p : Spot) → fresh_at p ≡ true → cond (digit b) 1 0 ≡ node_begins p (sign b)
+  other_begins e = at_fresh (cond (digit b) 1 0) (sign b) (by (digit b) refl)
     where
-      by : (g : Sign) → Shows b g → 0 ≡ node_begins fresh g
-      by space s = refl
-      by (figure x) s = absurd (false≢true (sym h ∙ s.0))
-      by opening s = absurd (e s)
-      by closing s = refl
-      by comma s = refl
-      by colon s = refl
-      by point s = refl
-      by semicolon s = refl
-      by foreign s = refl
+      none : digit b ≡ false → (g : Sign) → Shows b g → 0 ≡ node_begins fresh g
+      none h space s = refl
+      none h (figure x) s = absurd (false≢true (sym h ∙ s.0))
+      none h opening s = absurd (e s)
+      none h closing s = refl
+      none h comma s = refl
+      none h colon s = refl
+      none h point s = refl
+      none h semicolon s = refl
+      none h foreign s = refl
+
+      by : (o : Bool) → digit b ≡ o → cond o 1 0 ≡ node_begins fresh (sign b)
+      by true h = ap (node_begins fresh) (sym (digit-sign b h))
+      by false h = none h (sign b) (shows b)
 
 -- ---- behind which byte a subtree may begin
 
@@ -59,27 +54,26 @@ figured-not x (in_number v) = refl
 figured-not x elsewhere = refl
 
 module _ (b : ℕ) where
-  pub fresh_opened : b ≡ 40 → (p : Spot) → fresh_at (onward p (sign b)) ≡ true
+  pub fresh_led : (b ≡ 40) ⊎ (b ≡ 44) → (p : Spot) → fresh_at (onward p (sign b)) ≡ true
   unfolding sign
-  fresh_opened e p = ap (λ (x : ℕ). fresh_at (onward p (sign x))) e
+  fresh_led (inl e) p = ap (λ (x : ℕ). fresh_at (onward p (sign x))) e
+  fresh_led (inr e) p = ap (λ (x : ℕ). fresh_at (onward p (sign x))) e
 
-  pub fresh_listed : b ≡ 44 → (p : Spot) → fresh_at (onward p (sign b)) ≡ true
-  unfolding sign
-  fresh_listed e p = ap (λ (x : ℕ). fresh_at (onward p (sign x))) e
-
-  pub fresh_blank : So (blank b) → (p : Spot) → fresh_at (onward p (sign b)) ≡ fresh_at p
-  fresh_blank h p = ap (λ (g : Sign). fresh_at (onward p g)) (blank-sign b h) ∙ blanked_same p
-
-  pub not_fresh : (b ≡ 40 → ⊥) → (b ≡ 44 → ⊥) → blank b ≡ false → (p : Spot) → fresh_at (onward p (sign b)) ≡ false
-  not_fresh e c h p = by (sign b) (shows b)
+  -- any other byte
+  pub fresh_other : (b ≡ 40 → ⊥) → (b ≡ 44 → ⊥) → (p : Spot) → fresh_at (onward p (sign b)) ≡ (fresh_at p && blank b)
+  fresh_other e c p = by (blank b) refl
     where
-      by : (g : Sign) → Shows b g → fresh_at (onward p g) ≡ false
-      by space s = absurd (false≢true (sym h ∙ s))
-      by (figure x) s = figured-not x p
-      by opening s = absurd (e s)
-      by closing s = refl
-      by comma s = absurd (c s)
-      by colon s = refl
-      by point s = refl
-      by semicolon s = refl
-      by foreign s = refl
+      none : blank b ≡ false → (g : Sign) → Shows b g → fresh_at (onward p g) ≡ false
+      none h space s = absurd (false≢true (sym h ∙ s))
+      none h (figure x) s = figured-not x p
+      none h opening s = absurd (e s)
+      none h closing s = refl
+      none h comma s = absurd (c s)
+      none h colon s = refl
+      none h point s = refl
+      none h semicolon s = refl
+      none h foreign s = refl
+
+      by : (o : Bool) → blank b ≡ o → fresh_at (onward p (sign b)) ≡ (fresh_at p && o)
+      by true h = ap (λ (g : Sign). fresh_at (onward p g)) (blank-sign b h) ∙ blanked_same p ∙ sym (and-true (fresh_at p))
+      by false h = none h (sign b) (shows b) ∙ sym (and-false (fresh_at p))

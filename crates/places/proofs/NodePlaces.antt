@@ -27,10 +27,11 @@ module _ (w : List ℕ) (i : ℕ) (p : Spot) (m x : ℕ) (l : i < length w) (e :
   pub place_reached : m < x → i + node_place_from p m (drop i w) ≡ i
   place_reached h = let z = place_here p m (get_or w i 0) (drop (suc i) w) (omega (arith, e)) in rw (drop-cons w i 0 l) (omega (arith, z))
 
-  pub place_passed : x ≤ m → (i + 1) + node_place_from (onward p (sign (get_or w i 0))) (m - x) (drop (i + 1) w) ≡ i + node_place_from p m (drop i w)
-  place_passed h =
-      let z = place_behind p m (get_or w i 0) (drop (suc i) w) (omega (arith, e)) in
-      rw (drop-cons w i 0 l, e, add-one i) (omega (arith, z))
+  pub place_passed : (n : ℕ) → x + n ≡ m → (i + 1) + node_place_from (onward p (sign (get_or w i 0))) n (drop (i + 1) w) ≡ i + node_place_from p m (drop i w)
+  place_passed n h =
+      let q : m - node_begins p (sign (get_or w i 0)) ≡ n = omega (arith, e) in
+      let z = rw q at (place_behind p m (get_or w i 0) (drop (suc i) w) (omega (arith, e))) in
+      rw (drop-cons w i 0 l, add-one i) (omega (arith, z))
 
 -- no node is left
 pub place_none : (w : List ℕ) (i : ℕ) (p : Spot) (m : ℕ) → i ≤ length w → length w ≤ i → i + node_place_from p m (drop i w) ≡ i

@@ -1,7 +1,7 @@
 // Why a Newick text is refused, at which place of it, and at which line and column of the input.
 #![tactic(auto)]
 
-ghost use Rattle.std.specs.Prelude.{◌≡◌, ◌≤◌, length};
+ghost use Rattle.std.specs.Prelude.{cond, ◌≡◌, ◌≤◌, length};
 ghost use Rattle.newick.specs.Place.{Spot, node_begins, onward};
 ghost use Rattle.newick.specs.Signs.{sign};
 ghost use Rattle.places.specs.LineColumns.{line_column_from};
@@ -30,52 +30,32 @@ pub fn line_column(before: &[u8]) -> LineColumn
 {
     let mut line = 1;
     let mut column = 1;
-    let mut i = 0;
-    while i < before.len() {
-        if before[i] == b'\n' {
+    for b in before {
+        if *b == b'\n' {
             line += 1;
             column = 1;
         } else {
             column += 1;
         }
-        i += 1;
     }
-    LineColumn {
-        line: line,
-        column: column,
-    }
+    LineColumn { line, column }
 }
 
-// Does a node begin with byte b, where a subtree may begin (fresh) or not? 1 or 0.
-fn begins(fresh: bool, b: u8) -> usize
-    ensures { (p : Spot) → fresh_at p ≡ fresh → result ≡ node_begins p (sign b) }
+// Does a node begin with byte b, where a subtree may begin (fresh) or not?
+fn begins(fresh: bool, b: u8) -> bool
+    ensures { (p : Spot) → fresh_at p ≡ fresh → cond result 1 0 ≡ node_begins p (sign b) }
 {
-    if !fresh {
-        return 0;
-    }
-    if b == b'(' {
-        return 1;
-    }
-    if numerals::digit(b) {
-        return 1;
-    }
-    0
+    fresh && (b == b'(' || numerals::digit(b))
 }
 
 // May a subtree begin behind byte b?
 fn fresh_behind(fresh: bool, b: u8) -> bool
     ensures { (p : Spot) → fresh_at p ≡ fresh → fresh_at (onward p (sign b)) ≡ result }
 {
-    if b == b'(' {
-        return true;
+    match b {
+        b'(' | b',' => true,
+        _ => fresh && numerals::blank(b),
     }
-    if b == b',' {
-        return true;
-    }
-    if numerals::blank(b) {
-        return fresh;
-    }
-    false
 }
 
 // The place where node m begins in a text; the text's length where there is no node m.
@@ -84,17 +64,16 @@ fn node_place(text: &[u8], m: usize) -> usize
 {
     let mut fresh = true;
     let mut left = m;
-    let mut i = 0;
-    while i < text.len() {
-        let x = begins(fresh, text[i]);
-        if left < x {
-            return i;
+    for (i, b) in text.iter().enumerate() {
+        if begins(fresh, *b) {
+            if left == 0 {
+                return i;
+            }
+            left -= 1;
         }
-        left -= x;
-        fresh = fresh_behind(fresh, text[i]);
-        i += 1;
+        fresh = fresh_behind(fresh, *b);
     }
-    i
+    text.len()
 }
 
 // The cause that a refusal names.

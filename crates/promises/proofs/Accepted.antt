@@ -19,16 +19,13 @@ use Rattle.bodies.proofs.Good.{length_good}
 use Rattle.bodies.specs.Draws.{tree_of}
 use Rattle.rules.specs.Faults.{fault}
 use Rattle.bodies.specs.Nodes.{Good, bad_length, nodes, room_for}
-use Rattle.bodies.specs.declared.Verdict.{Verdict}
-use Rattle.bodies.specs.declared.Verdict.TheVariants.{Breaks, Fine}
 use Rattle.answers.proofs.Answered.{Each, first_among, first_append, first_on, first_stop, number-zero, pass_both, pass_false, pass_one, refuse_one, then_pass}
 use Rattle.answers.proofs.Good.{body_pass, count_pass, length_pass, room_pass, rules_pass, table_pass}
 use Rattle.refusals.specs.Told.{Told, Value, number_of_nodes, value}
 use Rattle.answers.specs.Inputs.{Body, Count, Table}
 use Rattle.answers.specs.Looks.{first_refusal, look_told, look_bytes, look_count, look_length, look_room, look_rules, look_table, refuse_if, ruled, wrong_count}
 use Rattle.refusals.specs.Refusals.{refusal_told}
-use Rattle.answers.specs.declared.Look.{Look}
-use Rattle.answers.specs.declared.Look.TheVariants.{Pass, Refuse}
+use Rattle.answers.specs.Looks.{Look}
 use Rattle.refusals.specs.declared.Refusal.{Refusal}
 use Rattle.refusals.specs.declared.Refusal.TheVariants.{BadByte, BadCounts, BadLength, BadRecord, BadSet, BadTable, BadTree, Contradicted, Outside, ShortRoom, Unforced}
 use Rattle.refusals.specs.declared.Contradiction.{Contradiction}
@@ -61,16 +58,18 @@ use Rattle.promises.specs.Demand1.{Demand1}
 use Rattle.promises.specs.Together.{RefusesBadAlone}
 use Rattle.promises.specs.Veto.{NeverTen}
 use Rattle.promises.specs.Inputs.{Buildable, Checkable, Enterable, Listable, Loosenable, Orderable, Parsable, Renderable, Triplet}
+use Rattle.std.specs.Prelude.{Ok, Err, Result}
+use Rattle.bodies.specs.declared.Broken.{Broken}
 
 -- every look of l passes exactly where P is so
 abbrev Passed : List Look → Type 0 → Type 0
-Passed l P = (first_refusal l ≡ Pass) ↔ P
+Passed l P = (first_refusal l ≡ Ok tt) ↔ P
 
 -- the laws below are put together from such parts
 record Exactly (l : List Look) (P : Type 0) : Type 0 where
   so : Passed l P
 
-one_look : (a : Look) {P : Type 0} → (a ≡ Pass) ↔ P → Exactly (a ∷ []) P
+one_look : (a : Look) {P : Type 0} → (a ≡ Ok tt) ↔ P → Exactly (a ∷ []) P
 one_look a p = record { so = pass_one a p }
 
 infixr 20 ◌then◌
@@ -82,7 +81,7 @@ recorded : {l : List Look} {P Q : Type 0} → Exactly l P → (P → Q) → (Q �
 recorded p f g = Iff.trans p.so (f, g)
 
 -- 13
-record_pass : (n : ℕ) (rs : List (List ℕ)) → (refuse_if (ltb (first_bad n rs) (length rs)) (BadRecord (first_bad n rs)) ≡ Pass) ↔ ((i : ℕ) → i < length rs → Triplet n (get_or rs i []))
+record_pass : (n : ℕ) (rs : List (List ℕ)) → (refuse_if (ltb (first_bad n rs) (length rs)) (BadRecord (first_bad n rs)) ≡ Ok tt) ↔ ((i : ℕ) → i < length rs → Triplet n (get_or rs i []))
 record_pass n rs = (
   (λ e i l.
       let b : first_bad n rs ≡ length rs = omega (arith, ltb-false (first_bad n rs) (length rs) (pass_false (ltb (first_bad n rs) (length rs)) _ e), first_bad-le n rs) in
@@ -169,7 +168,7 @@ module _ (n : ℕ) (t b : List ℕ) (g : Checkable n t b) where
       let some = (length_good b g.body.long).0 in
       pc_first n t (tree_of b) (tree_formed n (nodes b) g.body.good some) (λ x h. lt-ltb x n (tree_below n (nodes b) g.body.good some x h))
 
-  pub pc_pass : (look_pc n t (tree_of b) ≡ Pass) ↔ PC (entered t) (below n) (tree_of b)
+  pub pc_pass : (look_pc n t (tree_of b) ≡ Ok tt) ↔ PC (entered t) (below n) (tree_of b)
   pc_pass = (
     (λ e. pc_none.1 (ltb-false (first_differs n t (tree_of b)) (C n 3) (pass_false (ltb (first_differs n t (tree_of b)) (C n 3)) _ e))),
     λ pc. rw (le-ltb (first_differs n t (tree_of b)) (C n 3) (pc_none.0 pc)) refl,
@@ -203,12 +202,12 @@ of_input k = not (eqb k 10) && (not (eqb k 11) && not (eqb k 12))
 abbrev Input : Refusal → Type 0
 Input x = So (of_input (refusal_told x).number)
 
-one : (c : Bool) (y : Refusal) → Input y → (x : Refusal) → refuse_if c y ≡ Refuse x → Input x
+one : (c : Bool) (y : Refusal) → Input y → (x : Refusal) → refuse_if c y ≡ Err x → Input x
 one c y h = refuse_one Input c y h
 
-rules : (v : Verdict) (x : Refusal) → ruled v ≡ Refuse x → Input x
-rules Fine x e = let z : ◌≡◌ {A = ℕ} 0 1 = cc in absurd (omega arith)
-rules (Breaks y) x e = let z : BadTree y ≡ x = cc in subst Input z refl
+rules : (v : Result (Unit {0}) Broken) (x : Refusal) → ruled v ≡ Err x → Input x
+rules (Ok _) x e = let z : ◌≡◌ {A = ℕ} 0 1 = cc in absurd (omega arith)
+rules (Err y) x e = let z : BadTree y ≡ x = cc in subst Input z refl
 
 build_input : (n u : ℕ) (t : List ℕ) (l : ℕ) → Each Input (input_looks n u t l)
 build_input n u t l = (
@@ -236,26 +235,26 @@ check_input n t b = (
 
 -- ---- an operation that keeps demand 1 refuses input exactly when it is not good
 
-pub zero_good : (r : Told) (k : Look) (vs : List Value) → r ≡ look_told k vs → {P : Type 0} → (k ≡ Pass) ↔ P → (r.number ≡ 0) ↔ P
+pub zero_good : (r : Told) (k : Look) (vs : List Value) → r ≡ look_told k vs → {P : Type 0} → (k ≡ Ok tt) ↔ P → (r.number ≡ 0) ↔ P
 zero_good r k vs e p =
     let n = ap (λ (t : Told). t.number) e in
     ((λ z. p.0 ((number-zero k vs).0 (sym n ∙ z))), λ x. n ∙ (number-zero k vs).1 (p.1 x))
 
 -- the looks l at input come before others, m, whose numbers Q has; of those that speak of no outcome it has 0 alone
 module _ (l m : List Look) (vs : List Value) (h : Each Input l) (Q : ℕ → Type 0) (none : (k : ℕ) → Q k → So (of_input k) → k ≡ 0) (last : Q (look_told (first_refusal m) vs).number) where
-  input_pass : Q (look_told (first_refusal (l ++ m)) vs).number → first_refusal l ≡ Pass
+  input_pass : Q (look_told (first_refusal (l ++ m)) vs).number → first_refusal l ≡ Ok tt
   input_pass q = go (first_refusal l) refl
     where
-      go : (k : Look) → first_refusal l ≡ k → first_refusal l ≡ Pass
-      go Pass e = e
-      go (Refuse x) e =
+      go : (k : Look) → first_refusal l ≡ k → first_refusal l ≡ Ok tt
+      go (Ok _) e = e
+      go (Err x) e =
           let s = first_stop l m x e in
           let z = (number-zero (first_refusal (l ++ m)) vs).0 (none _ q (subst (λ (k : Look). So (of_input (look_told k vs).number)) (sym s) (first_among Input l h x e))) in
-          let w : Refuse x ≡ Pass = sym s ∙ z in
+          let w : Err x ≡ Ok tt = sym s ∙ z in
           let y : ◌≡◌ {A = ℕ} 0 1 = cc in
           absurd (omega arith)
 
-  input_good : (r : Told) → r ≡ look_told (first_refusal (l ++ m)) vs → {P : Type 0} → (first_refusal l ≡ Pass) ↔ P → Q r.number ↔ P
+  input_good : (r : Told) → r ≡ look_told (first_refusal (l ++ m)) vs → {P : Type 0} → (first_refusal l ≡ Ok tt) ↔ P → Q r.number ↔ P
   input_good r e p = (
     (λ q. p.0 (input_pass (subst (λ (t : Told). Q t.number) e q))),
     λ x. subst (λ (t : Told). Q t.number) (sym (e ∙ ap (λ (k : Look). look_told k vs) (first_on l m (p.1 x)))) last,
@@ -299,10 +298,10 @@ loosen_eleven n t b l k vs = ((λ z. go (first_refusal (candidate_looks n t b)) 
     tail g false e x z pc = no_eleven (ltb l (length b)) (ltb k 62) vs z
 
     go : (a : Look) → first_refusal (candidate_looks n t b) ≡ a → (look_told (first_refusal (loosen_looks n t b l k)) vs).number ≡ 11 → Checkable n t b × (PC (entered t) (below n) (tree_of b) → ⊥)
-    go Pass e z =
+    go (Ok _) e z =
         let g = (check_pass n t b).0 e in
         (g, tail g (ltb (first_differs n t (tree_of b)) (C n 3)) refl _ (sym (ap (λ (a : Look). (look_told a vs).number) (first_on (candidate_looks n t b) (lent_looks n t b l k) e)) ∙ z))
-    go (Refuse x) e z = absurd (not_input 11 refl (refusal_told x).number (first_among Input (candidate_looks n t b) (check_input n t b) x e)
+    go (Err x) e z = absurd (not_input 11 refl (refusal_told x).number (first_among Input (candidate_looks n t b) (check_input n t b) x e)
         (sym (ap (λ (a : Look). (look_told a vs).number) (first_stop (candidate_looks n t b) (lent_looks n t b l k) x e)) ∙ z))
 
     back : Checkable n t b → (PC (entered t) (below n) (tree_of b) → ⊥) → (look_told (first_refusal (loosen_looks n t b l k)) vs).number ≡ 11
@@ -336,8 +335,8 @@ input_alone : (l : List Look) (vs : List Value) → Each Input l → (m : ℕ) �
 input_alone l vs h m f = go (first_refusal l) refl
   where
     go : (k : Look) → first_refusal l ≡ k → (look_told k vs).number ≢ m
-    go Pass e z = not_input m f 0 refl z
-    go (Refuse x) e z = not_input m f (refusal_told x).number (first_among Input l h x e) z
+    go (Ok _) e z = not_input m f 0 refl z
+    go (Err x) e z = not_input m f (refusal_told x).number (first_among Input l h x e) z
 
 -- so the veto build of any operations that keep demand 1 never answers 10
 pub vetoes_never_10 : (L : Operations) → Demand1 L → NeverTen L.veto

@@ -13,8 +13,7 @@ use Rattle.answers.proofs.Answered.{first_on, first_stop}
 use Rattle.refusals.specs.Told.{Told, Value, told}
 use Rattle.answers.specs.Looks.{first_refusal, look_room, look_told, refuse_if}
 use Rattle.refusals.specs.declared.Contradiction.{Contradiction}
-use Rattle.answers.specs.declared.Look.{Look}
-use Rattle.answers.specs.declared.Look.TheVariants.{Pass, Refuse}
+use Rattle.answers.specs.Looks.{Look}
 use Rattle.refusals.specs.declared.Refusal.TheVariants.{Contradicted, ShortRoom, Unforced}
 use Rattle.checking.specs.Checks.{candidate_looks, check_looks, first_differs, first_unsure, look_pc, triples_looks}
 use Rattle.loosening.specs.Loosens.{loosen_looks}
@@ -22,6 +21,7 @@ use Rattle.promises.specs.Demand1.{Demand1}
 use Rattle.promises.specs.Loosening.{RefusesAsCheck, ThenNine}
 use Rattle.promises.specs.Operations.{Operations}
 use Rattle.promises.proofs.Accepted.{accepts, check_pass}
+use Rattle.std.specs.Prelude.{Ok, Err}
 
 -- what is told where the looks at the candidate pass: PC fails or not, then PI, or the room and the list
 abbrev check_tail : Bool → Bool → Contradiction → ℕ → Told
@@ -53,7 +53,7 @@ module _ (n : ℕ) (t b : List ℕ) where
   abbrev loose : Bool
   loose = ltb (first_unsure n t (tree_of b)) (C n 3)
 
-  check_on : first_refusal (candidate_looks n t b) ≡ Pass → look_told (first_refusal (check_looks n t b)) [] ≡ check_tail fails loose at (first_unsure n t (tree_of b))
+  check_on : first_refusal (candidate_looks n t b) ≡ Ok tt → look_told (first_refusal (check_looks n t b)) [] ≡ check_tail fails loose at (first_unsure n t (tree_of b))
   check_on e = ap (λ (a : Look). look_told a []) (first_on (candidate_looks n t b) (triples_looks n t (tree_of b)) e)
 
   -- a room of l bytes, and a list of k places
@@ -61,20 +61,20 @@ module _ (n : ℕ) (t b : List ℕ) where
     abbrev last : List Look
     last = look_pc n t (tree_of b) ∷ look_room (length b) l ∷ look_room 62 k ∷ []
 
-    loosen_on : first_refusal (candidate_looks n t b) ≡ Pass → look_told (first_refusal (loosen_looks n t b l k)) vs ≡ loosen_tail fails (ltb l (length b)) (ltb k 62) at vs
+    loosen_on : first_refusal (candidate_looks n t b) ≡ Ok tt → look_told (first_refusal (loosen_looks n t b l k)) vs ≡ loosen_tail fails (ltb l (length b)) (ltb k 62) at vs
     loosen_on e = ap (λ (a : Look). look_told a vs) (first_on (candidate_looks n t b) last e)
 
     same : (a : Look) → first_refusal (candidate_looks n t b) ≡ a → (look_told (first_refusal (check_looks n t b)) []).number ≢ 0 → (look_told (first_refusal (check_looks n t b)) []).number ≢ 12
         → look_told (first_refusal (loosen_looks n t b l k)) vs ≡ look_told (first_refusal (check_looks n t b)) []
-    same Pass e z w =
+    same (Ok _) e z w =
         let c = check_on e in
         loosen_on e
         ∙ tail_same fails loose (ltb l (length b)) (ltb k 62) at (first_unsure n t (tree_of b)) vs (subst (λ (r : Told). r.number ≢ 0) c z) (subst (λ (r : Told). r.number ≢ 12) c w)
         ∙ sym c
-    same (Refuse x) e z w = ap (λ (a : Look). look_told a vs) (first_stop (candidate_looks n t b) last x e)
+    same (Err x) e z w = ap (λ (a : Look). look_told a vs) (first_stop (candidate_looks n t b) last x e)
         ∙ sym (ap (λ (a : Look). look_told a []) (first_stop (candidate_looks n t b) (triples_looks n t (tree_of b)) x e))
 
-    nine : first_refusal (candidate_looks n t b) ≡ Pass → (r : Told) → r ≡ look_told (first_refusal (check_looks n t b)) [] → (r.number ≡ 0) ⊎ (r.number ≡ 12)
+    nine : first_refusal (candidate_looks n t b) ≡ Ok tt → (r : Told) → r ≡ look_told (first_refusal (check_looks n t b)) [] → (r.number ≡ 0) ⊎ (r.number ≡ 12)
         → (q : Told) → q ≡ look_told (first_refusal (loosen_looks n t b l k)) vs → (q.number ≡ 0) ⊎ (q ≡ told 9 [])
     nine e r c h q m = subst (λ (x : Told). (x.number ≡ 0) ⊎ (x ≡ told 9 [])) (sym (m ∙ loosen_on e))
         (tail_nine fails loose (ltb l (length b)) (ltb k 62) at (first_unsure n t (tree_of b)) vs (subst (λ (x : Told). (x.number ≡ 0) ⊎ (x.number ≡ 12)) (c ∙ check_on e) h))

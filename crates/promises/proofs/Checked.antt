@@ -30,17 +30,16 @@ use Rattle.answers.proofs.Answered.{first_on, pass_false, pass_one, told_first}
 use Rattle.refusals.specs.Told.{Told}
 use Rattle.answers.specs.Looks as Looks
 use Rattle.answers.specs.Looks.{answered, look_told, refuse_if}
-use Rattle.answers.specs.declared.Look.{Look}
-use Rattle.answers.specs.declared.Look.TheVariants.{Pass}
+use Rattle.answers.specs.Looks.{Look}
 use Rattle.refusals.specs.declared.Refusal.TheVariants.{Contradicted}
 use Rattle.refusals.specs.declared.Refusal.TheVariants.{Unforced as Unforced'}
 use Rattle.checking.specs.Checks.{candidate_looks, check_looks, check_told, first_differs, first_unsure, look_pc, look_pi, triples_looks}
-use Rattle.checking.specs.declared.Answer.{Answer}
-use Rattle.checking.specs.declared.Answer.TheVariants.{Passes, Refused}
 use Rattle.promises.specs.Operations.{checks}
 use Rattle.promises.specs.Inputs.{Checkable}
 use Rattle.promises.specs.Demand2.{ChecksRight, Contradicts, FirstTriple, Loose, Unforced}
 use Rattle.promises.proofs.Accepted.{check_pass, pc_pass, then_known, zero_good}
+use Rattle.std.specs.Prelude.{Ok, Err, Result}
+use Rattle.refusals.specs.declared.Refusal.{Refusal}
 
 -- the first index is that of the first triple
 first_triple_lem : (n : ℕ) (P : Triplets) → first_triple n P < C n 3 → FirstTriple n (λ a b c. So (on_triple P a b c)) (first_triple n P)
@@ -133,8 +132,8 @@ module _ (n : ℕ) (t : List ℕ) (T : Tree) (f : So (well_formed T)) (bd : Belo
         unforced = λ z. absurd (omega (arith, z));
       }
 
-pub check_told_lem : (k : Look) → check_told (answered (λ (a : Answer). a) Refused k Passes) ≡ look_told k []
-check_told_lem k = told_first check_told (λ (a : Answer). a) Refused Passes refl (λ x. refl) k
+pub check_told_lem : (k : Look) → check_told (answered (λ (a : Result (Unit {0}) Refusal). a) Err k (Ok tt)) ≡ look_told k []
+check_told_lem k = told_first check_told (λ (a : Result (Unit {0}) Refusal). a) Err (Ok tt) refl (λ x. refl) k
 
 module _ (n : ℕ) (t b : List ℕ) (g : Checkable n t b) where
   pub checks_tree : checks n t b ≡ look_told (Looks.first_refusal (triples_looks n t (tree_of b))) []
@@ -152,7 +151,7 @@ module _ (n : ℕ) (t b : List ℕ) (g : Checkable n t b) where
   pub good_checked : ChecksRight n t (below n) (tree_of b) (checks n t b)
   good_checked = subst (λ (r : Told). ChecksRight n t (below n) (tree_of b) r) (sym checks_tree) (told_of n t (tree_of b) formed bd _ _ refl refl)
 
-  pi_pass : PC (entered t) (below n) (tree_of b) → (look_pi n t (tree_of b) ≡ Pass) ↔ PI (entered t) (below n) (tree_of b)
+  pi_pass : PC (entered t) (below n) (tree_of b) → (look_pi n t (tree_of b) ≡ Ok tt) ↔ PI (entered t) (below n) (tree_of b)
   pi_pass pc =
       let j = first_unsure n t (tree_of b) in
       let k = pi_first n t (tree_of b) formed (inside n t (tree_of b) formed bd) pc in

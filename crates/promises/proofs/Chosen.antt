@@ -10,13 +10,13 @@ use Rattle.answers.proofs.Answered.{kept, number-zero, told_first}
 use Rattle.refusals.specs.Told.{Name, Told, Value, number_of_nodes, told, value}
 use Rattle.answers.specs.Looks.{Settled, after, answered, first_refusal, look_told}
 use Rattle.refusals.specs.Refusals.{refusal_told}
-use Rattle.answers.specs.declared.Look.{Look}
-use Rattle.answers.specs.declared.Look.TheVariants.{Pass, Refuse}
+use Rattle.answers.specs.Looks.{Look}
 use Rattle.refusals.specs.declared.Refusal.{Refusal}
 use Rattle.answers.specs.declared.Written.{Written}
 use Rattle.building.specs.Builds.{build_told, counted_done, counted_refused}
 use Rattle.promises.specs.Operations.{gives}
 use Rattle.promises.specs.Demand1.{Chosen, ChosenLooked, with_looked}
+use Rattle.std.specs.Prelude.{Ok, Err}
 
 -- an operation that tells w as 0 with vs, and a refusal by the table
 module _ {A W B : Type 0} (tell : A → Told) (done : W → A) (refused : Refusal → A) (w : W) {vs : List Value} (e : tell (done w) ≡ told 0 vs) (g : (x : Refusal) → tell (refused x) ≡ refusal_told x) where
@@ -27,13 +27,13 @@ module _ {A W B : Type 0} (tell : A → Told) (done : W → A) (refused : Refusa
 
 -- no refusal has the number 0
 pub refused_some : (x : Refusal) → (refusal_told x).number ≢ 0
-refused_some x e = let w = (number-zero (Refuse x) []).0 e in let z : ◌≡◌ {A = ℕ} 0 1 = cc in absurd (omega arith)
+refused_some x e = let w = (number-zero (Err x) []).0 e in let z : ◌≡◌ {A = ℕ} 0 1 = cc in absurd (omega arith)
 
 -- either build: it tells the same, and behind it the c triples that it looked at, with 0 and 10
 module _ (c : ℕ) (w : Written) where
   pub told-looked : (k : Look) → build_told (answered (counted_done c) (counted_refused c) k w) ≡ with_looked c (look_told k (value number_of_nodes w.nodes ∷ []))
-  told-looked Pass = refl
-  told-looked (Refuse x) = rw (ne_eqb (refusal_told x).number 0 (refused_some x)) refl
+  told-looked (Ok _) = refl
+  told-looked (Err x) = rw (ne_eqb (refusal_told x).number 0 (refused_some x)) refl
 
   pub chosen_looked : {B : Type 0} (l : List Look) (m o : B)
       → ChosenLooked c l (value number_of_nodes w.nodes ∷ []) o (gives (build_told (answered (counted_done c) (counted_refused c) (first_refusal l) w)) (after (first_refusal l) m o))

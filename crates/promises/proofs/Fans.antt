@@ -25,8 +25,7 @@ use Rattle.outside.specs.Reaches.{Enclosed}
 use Rattle.answers.proofs.Answered.{first_append}
 use Rattle.refusals.specs.Told.{Told}
 use Rattle.answers.specs.Looks.{after, look_then, answered, first_refusal, look_bytes, look_count, look_length, look_room, look_rules, look_table, refuse_if}
-use Rattle.answers.specs.declared.Look.{Look}
-use Rattle.answers.specs.declared.Look.TheVariants.{Pass, Refuse}
+use Rattle.answers.specs.Looks.{Look}
 use Rattle.refusals.specs.declared.Refusal.TheVariants.{Contradicted, Unforced}
 use Rattle.admitting.proofs.Chosen.{outside_pass}
 use Rattle.building.specs.Builds.{build_done, build_room, build_told, counted_done, counted_refused, look_outcome, looked_by, outcome_by}
@@ -34,13 +33,12 @@ use Rattle.admitting.specs.GoodSet.{look_outside, look_set}
 use Rattle.checking.specs.Checks.{check_told, first_differs, first_unsure, look_pc, look_pi, triples_looks}
 use Rattle.easing.specs.Eases.{Lent, eased, laid_out, lent, tally}
 use Rattle.loosening.specs.Loosens.{loosen_told}
-use Rattle.loosening.specs.declared.Answer as Loosening
-use Rattle.checking.specs.declared.Answer.{Answer}
-use Rattle.checking.specs.declared.Answer.TheVariants.{Passes, Refused}
 use Rattle.promises.specs.Fans.{FansApart, FansAside, SameVerdict}
 use Rattle.promises.specs.Operations.{Given, GivenOf, builds, checks, gives, koodhaxil, loosens, vetoes}
+use Rattle.std.specs.Prelude.{Ok, Err, Result}
+use Rattle.refusals.specs.declared.Refusal.{Refusal}
 
-bytes_pass : (t : List ℕ) → ((i : ℕ) → Small (get_or t i 0)) → look_bytes t ≡ Pass
+bytes_pass : (t : List ℕ) → ((i : ℕ) → Small (get_or t i 0)) → look_bytes t ≡ Ok tt
 bytes_pass t h = rw ((small_exactly t).1 h) refl
 
 module _ (t t' : List ℕ) (f : FansApart t t') where
@@ -91,15 +89,15 @@ module _ (t t' : List ℕ) (f : FansApart t t') where
 
     -- what is told where the looks before come to A, an entered triplet differs at the triple j with the byte v, or nowhere, and P is the look at what is forced
     abbrev told_of' : Look → Bool → ℕ → ℕ → Look → Told
-    told_of' A c j v P = check_told (answered (λ (a : Answer). a) Refused (look_then A (look_then (refuse_if c (Contradicted (record { index = j; byte = v }))) (look_then P Pass))) Passes)
+    told_of' A c j v P = check_told (answered (λ (a : Result (Unit {0}) Refusal). a) Err (look_then A (look_then (refuse_if c (Contradicted (record { index = j; byte = v }))) (look_then P (Ok tt)))) (Ok tt))
 
     told_is : (u : List ℕ) → checks n u b ≡ told_of' (first_refusal (front u)) (ltb (first_differs n u (tree_of b)) (C n 3)) (first_differs n u (tree_of b)) (get_or u (first_differs n u (tree_of b)) 0) (look_pi n u (tree_of b))
-    told_is u = ap (λ (k : Look). check_told (answered (λ (a : Answer). a) Refused k Passes)) (first_append (front u) (triples_looks n u (tree_of b)))
+    told_is u = ap (λ (k : Look). check_told (answered (λ (a : Result (Unit {0}) Refusal). a) Err k (Ok tt))) (first_append (front u) (triples_looks n u (tree_of b)))
 
     verdict : (A : Look) (c : Bool) (j : ℕ) (P : Look) → SameVerdict t t' (told_of' A c j (get_or t j 0) P) (told_of' A c j (get_or t' j 0) P)
-    verdict Pass true j P = inr (j, refl, refl)
-    verdict Pass false j P = inl refl
-    verdict (Refuse x) c j P = inl refl
+    verdict (Ok _) true j P = inr (j, refl, refl)
+    verdict (Ok _) false j P = inl refl
+    verdict (Err x) c j P = inl refl
 
     same_front : first_refusal (front t) ≡ first_refusal (front t')
     same_front = ap₂ (λ (l : ℕ) (k : Look). first_refusal (look_count n ∷ look_table n l ∷ k ∷ look_length 0 (length b) ∷ look_rules 0 n b ∷ [])) f.long same_bytes
@@ -127,11 +125,11 @@ module _ (t t' : List ℕ) (f : FansApart t t') where
     module _ (o d : List ℕ) where
       -- the looks where those at the candidate come to A, an entered triplet differs at the triple j with the byte v, or nowhere
       abbrev loose_look : Look → Bool → ℕ → ℕ → Look
-      loose_look A c j v = look_then A (look_then (refuse_if c (Contradicted (record { index = j; byte = v }))) (look_then (look_room (length b) (length o)) (look_then (look_room 62 (length d)) Pass)))
+      loose_look A c j v = look_then A (look_then (refuse_if c (Contradicted (record { index = j; byte = v }))) (look_then (look_room (length b) (length o)) (look_then (look_room 62 (length d)) (Ok tt))))
 
       -- what is given where those looks come to k, and the loosening to r
       abbrev loosed_of : Look → Loosened → GivenOf Lent
-      loosed_of k r = gives (loosen_told (answered Loosening.TheVariants.Done Loosening.TheVariants.Refused k (tally r))) (after k (laid_out r (lent o d)) (lent o d))
+      loosed_of k r = gives (loosen_told (answered Ok Err k (tally r))) (after k (laid_out r (lent o d)) (lent o d))
 
       abbrev look_by : List ℕ → Look
       look_by u = loose_look (first_refusal (front u)) (ltb (first_differs n u (tree_of b)) (C n 3)) (first_differs n u (tree_of b)) (get_or u (first_differs n u (tree_of b)) 0)
@@ -143,9 +141,9 @@ module _ (t t' : List ℕ) (f : FansApart t t') where
       SameLoosed g g' = SameVerdict t t' g.told g'.told × (g.after ≡ g'.after)
 
       loosed_alike : (A : Look) (c : Bool) (j : ℕ) (r : Loosened) → SameLoosed (loosed_of (loose_look A c j (get_or t j 0)) r) (loosed_of (loose_look A c j (get_or t' j 0)) r)
-      loosed_alike Pass true j r = (inr (j, refl, refl), refl)
-      loosed_alike Pass false j r = (inl refl, refl)
-      loosed_alike (Refuse x) c j r = (inl refl, refl)
+      loosed_alike (Ok _) true j r = (inr (j, refl, refl), refl)
+      loosed_alike (Ok _) false j r = (inl refl, refl)
+      loosed_alike (Err x) c j r = (inl refl, refl)
 
       same_eased : eased n t b ≡ eased n t' b
       unfolding eased

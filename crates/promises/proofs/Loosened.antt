@@ -30,7 +30,7 @@ use Rattle.answers.proofs.Answered.{number-zero}
 use Rattle.refusals.specs.Told.{Told, dropped_count, number_of_nodes, told, value}
 use Rattle.answers.specs.Inputs.{Body}
 use Rattle.answers.specs.Looks.{first_refusal, look_told}
-use Rattle.answers.specs.declared.Look.{Look}
+use Rattle.answers.specs.Looks.{Look}
 use Rattle.checking.specs.Checks.{check_looks}
 use Rattle.easing.specs.Eases.{Lent, eased, laid_out, lent, numbers, tally}
 use Rattle.loosening.specs.Loosens.{tally_values}

@@ -16,7 +16,6 @@ use Rattle.trees.proofs.Splits.{holds_e}
 use Rattle.trees.proofs.Triplets.{fan_in}
 use Rattle.trees.specs.Build.{Outcome, stop, tree}
 use Rattle.trees.specs.Trees.{under}
-use Rattle.tables.specs.Bytes.{entered}
 use Rattle.tables.specs.Filled.{plain, table_for}
 use Rattle.bodies.specs.Draws.{tree_of}
 use Rattle.bodies.specs.Nodes.{room_for}
@@ -26,13 +25,10 @@ use Rattle.answers.proofs.Good.{count_pass, table_pass}
 use Rattle.refusals.specs.Told.{Told, Value, number_of_nodes, unnamed, value}
 use Rattle.answers.specs.Inputs.{Count, Table}
 use Rattle.answers.specs.Looks.{answered, first_refusal, look_bytes, look_count, look_room, look_table, look_told, refuse_if}
-use Rattle.answers.specs.declared.Look.{Look}
-use Rattle.answers.specs.declared.Look.TheVariants.{Pass, Refuse}
+use Rattle.answers.specs.Looks.{Look}
 use Rattle.refusals.specs.declared.Refusal.TheVariants.{BadSet, ShortRoom}
 use Rattle.admitting.proofs.Chosen.{outside_pass, set_pass}
 use Rattle.building.specs.Builds.{answer_told, build_answer, build_done, build_looks, counted_done, counted_refused, look_outcome, looked_by, nodes_in, outcome}
-use Rattle.building.specs.declared.Answer.{Answer}
-use Rattle.building.specs.declared.Answer.TheVariants.{Refused}
 use Rattle.admitting.specs.GoodSet.{GoodSet, look_outside, look_set}
 use Rattle.collections.specs.Collection.{Collection}
 use Rattle.collections.specs.Layout.{body_at, species, trees}
@@ -47,6 +43,9 @@ use Rattle.promises.proofs.Entered.{enters_is, occurring_in_has, occurs_in_below
 use Rattle.promises.proofs.Listed.{fanned_some, held_some, lists_is, occurring-has, occurs_below, occurs_some}
 use Rattle.promises.proofs.Promises.{accepted}
 use Rattle.promises.proofs.Tabled.{table_enclosed, table_good}
+use Rattle.std.specs.Prelude.{Ok, Err, Result}
+use Rattle.refusals.specs.declared.Refusal.{Refusal}
+use Rattle.answers.specs.declared.Written.{Written}
 
 -- what is left once the table and the set are good: the room, and the outcome
 last_number : (short : Bool) (R : Outcome) (vs : List Value) → ((look_told (first_refusal (refuse_if short ShortRoom ∷ look_outcome R ∷ [])) vs).number ≢ 15) × ((look_told (first_refusal (refuse_if short ShortRoom ∷ look_outcome R ∷ [])) vs).number ≢ 16)
@@ -62,7 +61,7 @@ module _ (n u : ℕ) (t : List ℕ) (c : Count n) (g : Table n t) where
   abbrev front : List Look
   front = look_count n ∷ look_table n (length t) ∷ look_bytes t ∷ []
 
-  front_pass : first_refusal front ≡ Pass
+  front_pass : first_refusal front ≡ Ok tt
   front_pass = first_on (look_count n ∷ []) (look_table n (length t) ∷ look_bytes t ∷ []) (rw ((count_pass n).1 c) refl) ∙ (table_pass n t).1 g
 
   module _ (o : List ℕ) where
@@ -77,14 +76,14 @@ module _ (n u : ℕ) (t : List ℕ) (c : Count n) (g : Table n t) where
         ∙ ap (λ (k : Look). (look_told k counts).number) (first_on front late front_pass)
 
     -- where the set is empty, the answer is 15
-    pub empty_refused : u ≡ 0 → (build_answer n u t (length o)).answer ≡ Refused BadSet
+    pub empty_refused : u ≡ 0 → (build_answer n u t (length o)).answer ≡ Err BadSet
     empty_refused e =
-        let q : first_refusal late ≡ Refuse BadSet = rw e refl in
+        let q : first_refusal late ≡ Err BadSet = rw e refl in
         let c = looked_by false n u t in
         ap (λ (k : Look). (answered (counted_done c) (counted_refused c) k (build_done (outcome n u t))).answer) (first_on front late front_pass ∙ q)
 
     told_empty : u ≡ 0 → (builds n u t o).told.number ≡ 15
-    told_empty e = ap (λ (a : Answer). (answer_told a).number) (empty_refused e)
+    told_empty e = ap (λ (a : Result Written Refusal). (answer_told a).number) (empty_refused e)
 
     told_taken : GoodSet n u → Enclosed n u t → ((builds n u t o).told.number ≢ 15) × ((builds n u t o).told.number ≢ 16)
     told_taken s e =

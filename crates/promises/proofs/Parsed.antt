@@ -13,20 +13,16 @@ use Rattle.bodies.proofs.Laid.{count_pos}
 use Rattle.bodies.specs.Draws.{body_of, node_count, tree_of, written}
 use Rattle.rules.specs.Faults.{fault}
 use Rattle.bodies.specs.Nodes.{bad_length, body_length, nodes}
-use Rattle.bodies.specs.declared.Verdict.{Verdict}
-use Rattle.bodies.specs.declared.Verdict.TheVariants.{Breaks, Fine}
 use Rattle.newick.specs.Texts.{Readable, RefusedAt}
 use Rattle.answers.proofs.Answered.{first_on, first_stop, told_first}
 use Rattle.answers.proofs.Good.{count_pass}
 use Rattle.refusals.specs.Told.{Told, Value, byte_place, number_of_nodes, told, value}
 use Rattle.answers.specs.Inputs.{Body, Count}
 use Rattle.answers.specs.Looks.{first_refusal, look_count, look_told, refuse_if, ruled}
-use Rattle.answers.specs.declared.Look.{Look}
-use Rattle.answers.specs.declared.Look.TheVariants.{Pass, Refuse}
+use Rattle.answers.specs.Looks.{Look}
 use Rattle.refusals.specs.declared.Refusal.TheVariants.{BadText, ShortRoom}
 use Rattle.parsing.proofs.Texts.{text_body_lem, text_fourteen, text_pass, text_refused, text_looks}
 use Rattle.parsing.specs.Parses.{body_looks, parse_done, parse_looks, parse_told, text_body}
-use Rattle.parsing.specs.declared.Answer.TheVariants.{Done, Refused}
 use Rattle.promises.specs.Operations.{Given, gives, parses}
 use Rattle.promises.specs.Inputs.{Parsable}
 use Rattle.promises.specs.Demand2.{front}
@@ -34,15 +30,17 @@ use Rattle.promises.specs.Newick.{DrawsText, ParsesRight}
 use Rattle.promises.proofs.Accepted.{parse_pass, zero_good}
 use Rattle.promises.proofs.Chosen.{value_is}
 use Rattle.promises.proofs.Wrote.{front_is, wrote}
+use Rattle.std.specs.Prelude.{Ok, Err, Result}
+use Rattle.bodies.specs.declared.Broken.{Broken}
 
 -- the numbers of a text that is read
 abbrev Read : ℕ → Type 0
 Read k = (k ≡ 0) ⊎ ((k ≡ 6) ⊎ (k ≡ 9))
 
-body_numbers : (v : Verdict) (short : Bool) (vs : List Value) → Read (look_told (first_refusal (ruled v ∷ refuse_if short ShortRoom ∷ [])) vs).number
-body_numbers (Breaks x) short vs = inr (inl refl)
-body_numbers Fine true vs = inr (inr refl)
-body_numbers Fine false vs = inl refl
+body_numbers : (v : Result (Unit {0}) Broken) (short : Bool) (vs : List Value) → Read (look_told (first_refusal (ruled v ∷ refuse_if short ShortRoom ∷ [])) vs).number
+body_numbers (Err x) short vs = inr (inl refl)
+body_numbers (Ok _) true vs = inr (inr refl)
+body_numbers (Ok _) false vs = inl refl
 
 not_fourteen : (k : ℕ) → Read k → k ≡ 14 → ⊥
 not_fourteen k (inl h) e = omega arith
@@ -57,29 +55,29 @@ module _ (n : ℕ) (w o : List ℕ) (c : Count n) where
   late = body_looks n (text_body w) (length o)
 
   told_is : (parses n w o).told ≡ look_told (first_refusal (parse_looks n w (length o))) counts
-  told_is = told_first parse_told Done Refused (parse_done w) refl (λ x. refl) (first_refusal (parse_looks n w (length o)))
+  told_is = told_first parse_told Ok Err (parse_done w) refl (λ x. refl) (first_refusal (parse_looks n w (length o)))
 
   -- n is good, so that the text is looked at
   text_told : (parses n w o).told ≡ look_told (first_refusal (text_looks w ++ late)) counts
   text_told = told_is ∙ ap (λ (k : Look). look_told k counts) (first_on (look_count n ∷ []) (text_looks w ++ late) (rw ((count_pass n).1 c) refl))
 
-  read_number : first_refusal (text_looks w) ≡ Pass → Read (parses n w o).told.number
+  read_number : first_refusal (text_looks w) ≡ Ok tt → Read (parses n w o).told.number
   read_number e = subst (λ (t : Told). Read t.number) (sym (text_told ∙ ap (λ (k : Look). look_told k counts) (first_on (text_looks w) late e))) (body_numbers (fault 0 (nodes (text_body w)) n) (ltb (length o) (length (text_body w))) counts)
 
-  refused_told : (p : ℕ) → first_refusal (text_looks w) ≡ Refuse (BadText p) → (parses n w o).told ≡ told 14 (value byte_place p ∷ [])
+  refused_told : (p : ℕ) → first_refusal (text_looks w) ≡ Err (BadText p) → (parses n w o).told ≡ told 14 (value byte_place p ∷ [])
   refused_told p e = text_told ∙ ap (λ (k : Look). look_told k counts) (first_stop (text_looks w) late (BadText p) e)
 
   read_so : (k : Look) → first_refusal (text_looks w) ≡ k → Read (parses n w o).told.number → (t : Tree) × Readable w t
-  read_so Pass e h = (text_pass w).0 e
-  read_so (Refuse x) e h =
+  read_so (Ok _) e h = (text_pass w).0 e
+  read_so (Err x) e h =
       let f = text_fourteen w x e in
-      absurd (not_fourteen _ h (ap (λ (t : Told). t.number) (refused_told f.0 (e ∙ ap Refuse f.1))))
+      absurd (not_fourteen _ h (ap (λ (t : Told). t.number) (refused_told f.0 (e ∙ ap Err f.1))))
 
   refused_so : (p : ℕ) (k : Look) → first_refusal (text_looks w) ≡ k → (parses n w o).told ≡ told 14 (value byte_place p ∷ []) → RefusedAt w p
-  refused_so p Pass e h = absurd (not_fourteen _ (read_number e) (ap (λ (t : Told). t.number) h))
-  refused_so p (Refuse x) e h =
+  refused_so p (Ok _) e h = absurd (not_fourteen _ (read_number e) (ap (λ (t : Told). t.number) h))
+  refused_so p (Err x) e h =
       let f = text_fourteen w x e in
-      let z = e ∙ ap Refuse f.1 in
+      let z = e ∙ ap Err f.1 in
       subst (RefusedAt w) (value_is f.0 p (sym (refused_told f.0 z) ∙ h)) ((text_refused w f.0).0 z)
 
   done_so : ((parses n w o).told.number ≡ 0) ↔ Parsable n w o

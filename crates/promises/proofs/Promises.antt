@@ -5,12 +5,6 @@ use lib.ListN.{length}
 use Rattle.bodies.specs.Nodes.{nodes}
 use Rattle.answers.proofs.Answered.{told_first}
 use Rattle.answers.specs.Looks.{first_refusal}
-use Rattle.collections.specs.declared.Answer as Reading
-use Rattle.entering.specs.declared.Answer as Entering
-use Rattle.ordering.specs.declared.Answer as Ordering
-use Rattle.parsing.specs.declared.Answer as Parsing
-use Rattle.rendering.specs.declared.Answer as Rendering
-use Rattle.loosening.specs.declared.Answer as Loosening
 use Rattle.collections.specs.Reads.{counts_of, read_looks, read_told}
 use Rattle.listing.specs.Lists.{list_looks}
 use Rattle.entering.specs.Enters.{enter_looks, enter_told, entry}
@@ -40,20 +34,21 @@ use Rattle.promises.proofs.Ordered.{good_ordered}
 use Rattle.promises.proofs.Parsed.{good_parsed}
 use Rattle.promises.proofs.Rebuilt.{full_known, full_rebuilt}
 use Rattle.promises.proofs.Rendered.{good_rendered, longest_text_lem, reads_back, texts_same}
+use Rattle.std.specs.Prelude.{Ok, Err}
 
 -- Every bad input gets the numbered refusal of the stated order, and a refused call leaves what was lent as it was.
 pub demand1 : Demand1 koodhaxil
 demand1 = record {
-  reading = λ b. told_first read_told Reading.TheVariants.Done Reading.TheVariants.Refused (counts_of b) refl (λ x. refl) (first_refusal (read_looks b));
-  listing = λ b t. chosen read_told Reading.TheVariants.Done Reading.TheVariants.Refused (counts_of b) refl (λ x. refl) (list_looks b (length t)) _ t;
-  entering = λ n rs t. chosen enter_told Entering.TheVariants.Done Entering.TheVariants.Refused (entry n rs) refl (λ x. refl) (enter_looks n rs (length t)) _ t;
-  ordering = λ n b o. chosen order_told Ordering.TheVariants.Done Ordering.TheVariants.Refused (record { nodes = (nodes b).count }) refl (λ x. refl) (order_looks n b (length o)) _ o;
+  reading = λ b. told_first read_told Ok Err (counts_of b) refl (λ x. refl) (first_refusal (read_looks b));
+  listing = λ b t. chosen read_told Ok Err (counts_of b) refl (λ x. refl) (list_looks b (length t)) _ t;
+  entering = λ n rs t. chosen enter_told Ok Err (entry n rs) refl (λ x. refl) (enter_looks n rs (length t)) _ t;
+  ordering = λ n b o. chosen order_told Ok Err (record { nodes = (nodes b).count }) refl (λ x. refl) (order_looks n b (length o)) _ o;
   building = λ n s t o. chosen_looked (looked_by false n s t) (build_done (outcome n s t)) (build_looks n s t (length o)) _ o;
   vetoing = λ n s t o. chosen_looked (veto_looked n s t) (build_done (vetoed n s t)) (input_looks n s t (length o)) _ o;
   checking = λ n t b. check_told_lem (first_refusal (check_looks n t b));
-  loosening = λ n t b o d. chosen loosen_told Loosening.TheVariants.Done Loosening.TheVariants.Refused (tally (eased n t b)) refl (λ x. refl) (loosen_looks n t b (length o) (length d)) _ (lent o d);
-  parsing = λ n w o. chosen parse_told Parsing.TheVariants.Done Parsing.TheVariants.Refused (parse_done w) refl (λ x. refl) (parse_looks n w (length o)) _ o;
-  rendering = λ n b o. chosen render_told Rendering.TheVariants.Done Rendering.TheVariants.Refused (render_done b) refl (λ x. refl) (render_looks n b (length o)) _ o;
+  loosening = λ n t b o d. chosen loosen_told Ok Err (tally (eased n t b)) refl (λ x. refl) (loosen_looks n t b (length o) (length d)) _ (lent o d);
+  parsing = λ n w o. chosen parse_told Ok Err (parse_done w) refl (λ x. refl) (parse_looks n w (length o)) _ o;
+  rendering = λ n b o. chosen render_told Ok Err (render_done b) refl (λ x. refl) (render_looks n b (length o)) _ o;
 }
 
 -- Input is refused exactly when it is not good: of any operations that keep demand 1, and so of these.

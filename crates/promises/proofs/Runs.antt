@@ -21,12 +21,10 @@ use Rattle.rules.proofs.Rules.{no_fault}
 use Rattle.bodies.specs.Draws.{body_of, node_count, tree_at, tree_of, written}
 use Rattle.rules.specs.Faults as Faults
 use Rattle.bodies.specs.Nodes.{bad_length, children, nodes, room_for}
-use Rattle.bodies.specs.declared.Verdict.TheVariants.{Fine}
 use Rattle.refusals.specs.Told.{looked_count, number_of_nodes, stopping_set, told, value}
 use Rattle.answers.specs.Looks as Looks
 use Rattle.answers.specs.Looks.{look_told}
-use Rattle.answers.specs.declared.Look.{Look}
-use Rattle.answers.specs.declared.Look.TheVariants.{Pass, Refuse}
+use Rattle.answers.specs.Looks.{Look}
 use Rattle.refusals.specs.declared.Refusal.TheVariants.{Contradicted, Unforced}
 use Rattle.building.specs.Builds.{looked_by, outcome, outcome_by}
 use Rattle.checking.specs.Checks.{first_differs, first_unsure, triples_looks}
@@ -37,6 +35,7 @@ use Rattle.promises.specs.Runs.{CallsHold, cherry_body, fan_body, nested_body, r
 use Rattle.promises.proofs.Built.{builds_stop, builds_tree}
 use Rattle.promises.proofs.Checked.{checks_tree}
 use Rattle.promises.proofs.Everyone.{all_enclosed, all_set}
+use Rattle.std.specs.Prelude.{Ok, Err}
 
 module _ (n : ℕ) (t : List ℕ) (some : 0 < n) (most : n ≤ 64) (long : length t ≡ C n 3) (small : wrong_byte t ≡ false) where
   count : Count n
@@ -60,7 +59,7 @@ module _ (n : ℕ) (t : List ℕ) (some : 0 < n) (most : n ≤ 64) (long : lengt
   by_stop : (U : Species) → outcome n (upto n) t ≡ stop U → builds n (upto n) t (room n) ≡ gives (told 10 (value stopping_set (number 64 U) ∷ value looked_count (looked_by false n (upto n) t) ∷ [])) (room n)
   by_stop U e = builds_stop n (upto n) t (room n) all_good U e
 
-  by_check : (b : List ℕ) → bad_length (length b) ≡ false → Faults.fault 0 (nodes b) n ≡ Fine → (T : Tree) → tree_of b ≡ T → (k : Look) → Looks.first_refusal (triples_looks n t T) ≡ k → checks n t b ≡ look_told k []
+  by_check : (b : List ℕ) → bad_length (length b) ≡ false → Faults.fault 0 (nodes b) n ≡ Ok tt → (T : Tree) → tree_of b ≡ T → (k : Look) → Looks.first_refusal (triples_looks n t T) ≡ k → checks n t b ≡ look_told k []
   by_check b l f T e k q = checks_tree n t b (record { count = count; table = table; body = record { good = (no_fault 0 n (nodes b)).0 f; long = l } })
       ∙ ap (λ (u : Tree). look_told (Looks.first_refusal (triples_looks n t u)) []) e ∙ ap (λ (j : Look). look_told j []) q
 
@@ -86,20 +85,20 @@ starred_given = (
       (
         by_tree 4 (1 ∷ 0 ∷ 0 ∷ 1 ∷ []) (omega arith) (omega arith) refl refl (pair Cherry (leaf 3)) refl,
         (
-          by_check 4 (1 ∷ 0 ∷ 0 ∷ 1 ∷ []) (omega arith) (omega arith) refl refl nested_body refl refl (pair Cherry (leaf 3)) refl Pass refl,
+          by_check 4 (1 ∷ 0 ∷ 0 ∷ 1 ∷ []) (omega arith) (omega arith) refl refl nested_body refl refl (pair Cherry (leaf 3)) refl (Ok tt) refl,
           (
             by_stop 4 (3 ∷ 0 ∷ 0 ∷ 0 ∷ []) (omega arith) (omega arith) refl refl _ refl,
             (
               by_stop 4 (1 ∷ 2 ∷ 0 ∷ 1 ∷ []) (omega arith) (omega arith) refl refl _ refl,
               (
-                by_check 3 (2 ∷ []) (omega arith) (omega arith) refl refl cherry_body refl refl Cherry refl (Refuse (Contradicted (record { index = 0; byte = 2 }))) refl,
+                by_check 3 (2 ∷ []) (omega arith) (omega arith) refl refl cherry_body refl refl Cherry refl (Err (Contradicted (record { index = 0; byte = 2 }))) refl,
                 (
-                  by_check 3 (3 ∷ []) (omega arith) (omega arith) refl refl cherry_body refl refl Cherry refl (Refuse (Contradicted (record { index = 0; byte = 3 }))) refl,
+                  by_check 3 (3 ∷ []) (omega arith) (omega arith) refl refl cherry_body refl refl Cherry refl (Err (Contradicted (record { index = 0; byte = 3 }))) refl,
                   (
-                    by_check 3 (0 ∷ []) (omega arith) (omega arith) refl refl cherry_body refl refl Cherry refl (Refuse (Unforced 0)) refl,
+                    by_check 3 (0 ∷ []) (omega arith) (omega arith) refl refl cherry_body refl refl Cherry refl (Err (Unforced 0)) refl,
                     (
-                      by_check 3 (1 ∷ []) (omega arith) (omega arith) refl refl cherry_body refl refl Cherry refl Pass refl,
-                      (by_check 3 (3 ∷ []) (omega arith) (omega arith) refl refl fan_body refl refl Fan refl Pass refl, (refl, tt)),
+                      by_check 3 (1 ∷ []) (omega arith) (omega arith) refl refl cherry_body refl refl Cherry refl (Ok tt) refl,
+                      (by_check 3 (3 ∷ []) (omega arith) (omega arith) refl refl fan_body refl refl Fan refl (Ok tt) refl, (refl, tt)),
                     ),
                   ),
                 ),

@@ -29,8 +29,7 @@ use Rattle.refusals.specs.Told.{Told, looked_count, number_of_nodes, told, value
 use Rattle.answers.specs.Inputs.{Body}
 use Rattle.answers.specs.Looks.{first_refusal}
 use Rattle.refusals.specs.Refusals.{refusal_told}
-use Rattle.answers.specs.declared.Look.{Look}
-use Rattle.answers.specs.declared.Look.TheVariants.{Pass, Refuse}
+use Rattle.answers.specs.Looks.{Look}
 use Rattle.building.proofs.Whole.{input_uncounted}
 use Rattle.admitting.specs.GoodSet.{input_looks}
 use Rattle.building.specs.Builds.{look_outcome, looked_by, outcome, outcome_by}
@@ -47,6 +46,7 @@ use Rattle.promises.proofs.Chosen.{value_is}
 use Rattle.promises.proofs.Counted.{one_counting}
 use Rattle.promises.proofs.Promises.{accepted, demand1}
 use Rattle.promises.proofs.Wrote.{tree_back, tree_housed, tree_wrote}
+use Rattle.std.specs.Prelude.{Ok, Err}
 
 module _ (n s : ℕ) (t o : List ℕ) (g : Buildable n s t o) where
   pub vetoes_tree : (T : Tree) → vetoed n s t ≡ tree T → vetoes n s t o ≡ gives (told 0 (value number_of_nodes (node_count T) ∷ value looked_count (veto_looked n s t) ∷ [])) (written o (body_of T))
@@ -133,8 +133,8 @@ but_ten n s t o h = go (first_refusal (input_looks n s t (length o))) refl
     came g (stop U) e = absurd (h (ap (λ (x : Given). x.told.number) (builds_stop n s t o g U e)))
 
     go : (k : Look) → first_refusal (input_looks n s t (length o)) ≡ k → vetoes n s t o ≡ builds n s t o
-    go Pass e = came ((build_pass n s t o).0 e) (outcome n s t) refl
-    go (Refuse x) e = rw (e, first_stop (input_looks n s t (length o)) (look_outcome (outcome n s t) ∷ []) x e)
+    go (Ok _) e = came ((build_pass n s t o).0 e) (outcome n s t) refl
+    go (Err x) e = rw (e, first_stop (input_looks n s t (length o)) (look_outcome (outcome n s t) ∷ []) x e)
         (ap (λ (c : ℕ). gives (record { number = (refusal_told x).number; values = (refusal_told x).values ++ (value looked_count c ∷ []); rule = (refusal_told x).rule }) o)
         (input_uncounted (veto_looked n s t) n s t (length o) x e ∙ sym (input_uncounted (looked_by false n s t) n s t (length o) x e)))
 

@@ -4,7 +4,7 @@ use Rattle.std.specs.Prelude.{cond, false, ◌||◌, List, [], ◌∷◌, ◌++�
 use Rattle.bodies.specs.Nodes.{nodes}
 use Rattle.refusals.specs.Told.{Told, Value, looked_count, number_of_nodes, text_length, value}
 use Rattle.answers.specs.Looks.{first_refusal, look_told}
-use Rattle.answers.specs.declared.Look.{Look}
+use Rattle.answers.specs.Looks.{Look}
 use Rattle.collections.specs.Reads.{count_values, counts_of, read_looks}
 use Rattle.listing.specs.Lists.{list_looks}
 use Rattle.entering.specs.Enters.{enter_looks, entry, entry_values}

@@ -3,11 +3,11 @@
 
 ghost use Rattle.pull.specs.Runs.{ShownText};
 
-// Prints the first `end` bytes of the text. Who calls this has to show what they are: what `pull` prints of the n bytes that came.
-fn print(bytes: &[u8], n: usize, text: &[u8], end: usize)
-    requires { ShownText bytes.now n text.now end }
+// Prints the text. Who calls this has to show what it is: what `pull` prints of the n bytes that came.
+fn print(bytes: &[u8], n: usize, text: &[u8])
+    requires { ShownText bytes.now n text.now }
 {
-    io::write_all(1, &text[..end]);
+    io::write_all(1, text);
 }
 
 fn main() {
@@ -15,7 +15,7 @@ fn main() {
     let n = io::read_full(0, &mut bytes);
     let mut store = [0u8; collections::LONGEST];
     let mut table = [0u8; 41664];
-    let mut text = [0u8; pull_text::MOST_TEXT];
-    let end = pull_text::pull(&bytes[..n], &mut store, &mut table, &mut text);
-    print(&bytes, n, &text, end);
+    let mut text = writing::Text::new();
+    pull_text::pull(&bytes[..n], &mut store, &mut table, &mut text);
+    print(&bytes, n, text.as_slice());
 }

@@ -1,6 +1,6 @@
 -- What is told of the input, by what reading its texts came to. Assumes nothing.
 use mathlib.Core.Bool.{Bool, cond, false, true}
-use mathlib.Core.List.{List}
+use mathlib.Core.List.{List, []}
 use mathlib.Core.Path.{◌∙◌, ◌≡◌, ap, refl, subst, sym}
 use Prim.Native.Nat.{ℕ, ◌-◌, ◌≤◌}
 use native.Mathlib.Omega.{arith}
@@ -14,49 +14,51 @@ use Rattle.papers.specs.Bundled.{bundled}
 use Rattle.papers.specs.Papers.{text_at}
 use Rattle.papers.specs.Reads.{Stored, all_read', bodies_of, most_bytes, papers_answer, read_from, text_answer}
 use Rattle.texts.specs.Texts.{texts}
-use Rattle.papers.specs.declared.Answer as Papers
 use Rattle.papers.specs.declared.Bad as refused
 use Rattle.papers.specs.declared.Found.{Found}
 use Rattle.places.proofs.Answers.{answer_inside}
 use Rattle.places.specs.Causes.{cause_of}
 use Rattle.places.specs.NodePlaces.{place_in}
 use Rattle.refused_text.specs.Refused.{text_in}
-use Rattle.writing.proofs.Writing.{writes_whole}
-use Rattle.writing.specs.Writes.{Writes}
+use Rattle.writing.proofs.Writing.{wrote_alone}
+use Rattle.writing.specs.Texts.{wrote}
 use Rattle.pull_text.specs.Pull.{collection_text, input_text, pull_text}
 use Rattle.pull_text.proofs.Lengths.{pull_few}
+use Rattle.papers.specs.declared.Unread.TheVariants.{Bad, Long}
+use Rattle.papers.specs.declared.Unread.{Unread}
+use Rattle.std.specs.Prelude.{Ok, Err, Result}
 
 module _ (w : List ℕ) where
   -- an input that is not refused for its length has at most 65,536 bytes
-  not_long : (x : refused.Bad) → papers_answer w ≡ Papers.TheVariants.Bad x → length w ≤ most_bytes
+  not_long : (x : refused.Bad) → papers_answer w ≡ Err (Bad x) → length w ≤ most_bytes
   unfolding papers_answer
   not_long x e = by (ltb most_bytes (length w)) refl e
     where
-      by : (o : Bool) → ltb most_bytes (length w) ≡ o → cond o Papers.TheVariants.Long (read_from (all_read' (bodies_of w)) 0 0 (texts w)) ≡ Papers.TheVariants.Bad x → length w ≤ most_bytes
+      by : (o : Bool) → ltb most_bytes (length w) ≡ o → cond o (Err Long) (read_from (all_read' (bodies_of w)) 0 0 (texts w)) ≡ Err (Bad x) → length w ≤ most_bytes
       by true h k = let z : ◌≡◌ {A = ℕ} 0 1 = cc in absurd (omega arith)
       by false h k = ltb-false most_bytes (length w) h
 
-  module _ (a : Papers.Answer) (p : a ≡ papers_answer w) where
+  module _ (a : Result Found Unread) (p : a ≡ papers_answer w) where
     input_is : input_text w a ≡ pull_text w
     unfolding pull_text
     input_is = ap (input_text w) p
 
-    pub input_told : (b : Papers.Answer) → a ≡ b → input_text w b ≡ pull_text w
+    pub input_told : (b : Result Found Unread) → a ≡ b → input_text w b ≡ pull_text w
     input_told b e = ap (input_text w) (sym e) ∙ input_is
 
     -- the papers are good: the store o holds the collection
-    module _ (f : Found) (e : a ≡ Papers.TheVariants.Done f) (o : List ℕ) (h : Stored w a o) where
+    module _ (f : Found) (e : a ≡ Ok f) (o : List ℕ) (h : Stored w a o) where
       stored : take f.end o ≡ bundled f.n (bodies_of w)
-      stored = subst (λ (b : Papers.Answer). Stored w b o) e h
+      stored = subst (λ (b : Result Found Unread). Stored w b o) e h
 
       pub stored_fits : f.end ≤ longest_collection
       stored_fits = let g = papers_good w f (sym p ∙ e) in omega (arith, g.end_is, g.collection.most)
 
       pub stored_told : collection_text (take f.end o) ≡ pull_text w
-      stored_told = ap collection_text stored ∙ input_told (Papers.TheVariants.Done f) e
+      stored_told = ap collection_text stored ∙ input_told (Ok f) e
 
     -- a paper is refused: what `put_refused` asks for
-    module _ (x : refused.Bad) (e : a ≡ Papers.TheVariants.Bad x) where
+    module _ (x : refused.Bad) (e : a ≡ Err (Bad x)) where
       pub bad_place : ((x.start ≤ x.end) × (x.end ≤ length w) × (x.end ≤ 65536)) × (place_in (text_in w x.start x.end) (cause_of x.why) ≤ x.end - x.start)
       unfolding text_answer
       bad_place =
@@ -68,6 +70,6 @@ module _ (w : List ℕ) where
             subst (λ (u : List ℕ). place_in u (cause_of x.why) ≤ x.end - x.start) (sym b.bytes) (omega (arith, i, b.end_is)),
           )
 
-  pub pull_written : (o v o' : List ℕ) (r : ℕ) → length o ≡ 40960 → v ≡ pull_text w → Writes o 0 v o' r
-      → (take r o' ≡ pull_text w) × (r ≤ 40960) × (length o' ≡ 40960)
-  pull_written o v o' r l e x = (writes_whole x (omega (arith, ap length e, pull_few w, l)) ∙ e, omega (arith, x.inside (omega arith), l), x.kept ∙ l)
+  -- there is room for the whole text
+  pub pull_written : (o v o' : List ℕ) → o ≡ [] → v ≡ pull_text w → o' ≡ wrote 40960 o v → o' ≡ pull_text w
+  pull_written o v o' n e x = x ∙ ap (λ (z : List ℕ). wrote 40960 z v) n ∙ wrote_alone 40960 v (omega (arith, ap length e, pull_few w)) ∙ e

@@ -32,7 +32,6 @@ use Rattle.answers.proofs.Answered.{first_on, then_pass}
 use Rattle.answers.proofs.Good.{count_pass, room_pass, table_pass}
 use Rattle.answers.specs.Inputs.{Count, Table}
 use Rattle.answers.specs.Looks.{first_refusal, look_bytes, look_count, look_room, look_table}
-use Rattle.answers.specs.declared.Look.TheVariants.{Pass}
 use Rattle.collections.proofs.Whole.{whole_long}
 use Rattle.collections.specs.Collection.{Collection}
 use Rattle.collections.specs.Layout.{body_at, species, trees}
@@ -40,6 +39,7 @@ use Rattle.collections.specs.Occurs.{occurring, occurs_up_to}
 use Rattle.listing.specs.Lists.{list_of, said_up_to}
 use Rattle.admitting.proofs.Chosen.{outside_pass, set_pass}
 use Rattle.admitting.specs.GoodSet.{GoodSet, input_looks, look_outside, look_set}
+use Rattle.std.specs.Prelude.{Ok}
 
 module _ (c : List ℕ) where
   -- all three occur in the first m trees
@@ -123,7 +123,7 @@ module _ (c : List ℕ) where
           let z : size s ≢ 0 = λ e. empty_e x.0 (subst (λ (u : ℕ). So (has u x.0)) (size-zero s e) (true_has s x.0 i)) in
           record { some = omega (arith, z); below = λ y h. occurs_below (trees c) (omega arith) y (ap (λ (S : Species). S y) (sym occurring-has) ∙ true_has s y h) }
 
-      pub looks_pass : first_refusal (input_looks n s t longest) ≡ Pass
+      pub looks_pass : first_refusal (input_looks n s t longest) ≡ Ok tt
       looks_pass =
           let late = look_set n s ∷ look_outside n s t ∷ look_room (room_for (size s)) longest ∷ [] in
           (then_pass (look_count n) _).1 (
@@ -131,6 +131,6 @@ module _ (c : List ℕ) where
             first_on (look_table n (length t) ∷ look_bytes t ∷ []) late ((table_pass n t).1 table)
                 ∙ (then_pass (look_set n s) _).1 (
                   (set_pass n s).1 set,
-                  (then_pass (look_outside n s t) _).1 ((outside_pass n s t).1 enclosed, (then_pass (look_room (room_for (size s)) longest) Pass).1 ((room_pass (room_for (size s)) longest).1 room, refl)),
+                  (then_pass (look_outside n s t) _).1 ((outside_pass n s t).1 enclosed, (then_pass (look_room (room_for (size s)) longest) (Ok tt)).1 ((room_pass (room_for (size s)) longest).1 room, refl)),
                 ),
           )

@@ -6,18 +6,16 @@ use Prim.Native.Nat.{ℕ, zero, suc, ◌<◌}
 use native.Mathlib.Omega.{arith}
 use lib.ListN.{length}
 use Rattle.answers.specs.Looks.{answered}
-use Rattle.answers.specs.declared.Look.{Look}
+use Rattle.answers.specs.Looks.{Look}
 use Rattle.collections.proofs.Whole.{read_pass}
 use Rattle.collections.specs.Collection.{Collection}
 use Rattle.collections.specs.Layout.{species, trees}
 use Rattle.collections.specs.Occurs.{occurring}
 use Rattle.collections.specs.Reads.{counts_of, read_answer}
-use Rattle.collections.specs.declared.Answer as Reading
 use Rattle.listing.specs.Lists.{list_of}
 use Rattle.papers.proofs.Theorems.{papers_good}
 use Rattle.papers.specs.Reads.{papers_answer}
 use Rattle.texts.specs.Texts.{texts}
-use Rattle.papers.specs.declared.Answer as Papers
 use Rattle.papers.specs.declared.Found.{Found}
 use Rattle.papers_text.specs.Lines.{papers_text}
 use Rattle.built_text.proofs.Sent.{built_sent, sent_behind}
@@ -29,16 +27,19 @@ use Rattle.pull_text.proofs.Input.{input_told}
 use Rattle.pull_text.proofs.Occurring.{looks_pass}
 use Rattle.pull_text.proofs.Refused.{long_refused, many_refused, none_refused, refused_one}
 use Rattle.pull_text.proofs.Told.{list_zeros}
+use Rattle.papers.specs.declared.Unread.TheVariants.{Bad, Empty, Long, Many}
+use Rattle.papers.specs.declared.Unread.{Unread}
+use Rattle.std.specs.Prelude.{Ok, Err, Result}
 
 -- ---- papers that are read
 
 -- where the texts of w are read, their collection is good: it has the body of each text, in their order; and what is printed are its lines, over the set that occurs
-pub good_papers : (w : List ℕ) (f : Found) → papers_answer w ≡ Papers.TheVariants.Done f → GoodPapers w f
+pub good_papers : (w : List ℕ) (f : Found) → papers_answer w ≡ Ok f → GoodPapers w f
 unfolding pull_text
 good_papers w f e =
     let p = papers_good w f e in
     let c = collection_of w f in
-    let read : read_answer c ≡ Reading.TheVariants.Done (counts_of c) = ap (λ (k : Look). answered Reading.TheVariants.Done Reading.TheVariants.Refused k (counts_of c)) ((read_pass c).1 p.collection.good) in
+    let read : read_answer c ≡ Ok (counts_of c) = ap (λ (k : Look). answered Ok Err k (counts_of c)) ((read_pass c).1 p.collection.good) in
     record {
       read = read;
       species_is = refl;
@@ -56,7 +57,7 @@ story_sent c g m some n e =
     (built_sent c (species c) (occurring c) (list_of c) (looks_pass c g m some))))
 
 -- the tree that they let be sent passes the check, with the table of their collection: whether they quarrel or not
-pub may_be_sent : (w : List ℕ) (f : Found) → papers_answer w ≡ Papers.TheVariants.Done f → Sent f.n (list_of (collection_of w f)) (pull_text w)
+pub may_be_sent : (w : List ℕ) (f : Found) → papers_answer w ≡ Ok f → Sent f.n (list_of (collection_of w f)) (pull_text w)
 may_be_sent w f e =
     let p = papers_good w f e in
     subst (Sent f.n (list_of (collection_of w f))) (sym (good_papers w f e).text) (by (length (texts w)) refl p.some)
@@ -68,12 +69,12 @@ may_be_sent w f e =
 -- ---- any input
 
 -- the papers are read, and a tree may be sent; or one line is printed, which says why the input is refused
-pub refused_or_sent : (w : List ℕ) → ((f : Found) × (papers_answer w ≡ Papers.TheVariants.Done f) × Sent f.n (list_of (collection_of w f)) (pull_text w)) ⊎ Refused (pull_text w)
+pub refused_or_sent : (w : List ℕ) → ((f : Found) × (papers_answer w ≡ Ok f) × Sent f.n (list_of (collection_of w f)) (pull_text w)) ⊎ Refused (pull_text w)
 refused_or_sent w = by (papers_answer w) refl
   where
-    by : (a : Papers.Answer) → papers_answer w ≡ a → ((f : Found) × (papers_answer w ≡ Papers.TheVariants.Done f) × Sent f.n (list_of (collection_of w f)) (pull_text w)) ⊎ Refused (pull_text w)
-    by (Papers.TheVariants.Done f) e = inl (f, e, may_be_sent w f e)
-    by Papers.TheVariants.Long e = inr (subst Refused (input_told w _ refl _ e) long_refused)
-    by Papers.TheVariants.None e = inr (subst Refused (input_told w _ refl _ e) none_refused)
-    by Papers.TheVariants.Many e = inr (subst Refused (input_told w _ refl _ e) many_refused)
-    by (Papers.TheVariants.Bad x) e = inr (subst Refused (input_told w _ refl _ e) (refused_one w x.paper x.start x.end x.why))
+    by : (a : Result Found Unread) → papers_answer w ≡ a → ((f : Found) × (papers_answer w ≡ Ok f) × Sent f.n (list_of (collection_of w f)) (pull_text w)) ⊎ Refused (pull_text w)
+    by (Ok f) e = inl (f, e, may_be_sent w f e)
+    by (Err Long) e = inr (subst Refused (input_told w _ refl _ e) long_refused)
+    by (Err Empty) e = inr (subst Refused (input_told w _ refl _ e) none_refused)
+    by (Err Many) e = inr (subst Refused (input_told w _ refl _ e) many_refused)
+    by (Err (Bad x)) e = inr (subst Refused (input_told w _ refl _ e) (refused_one w x.paper x.start x.end x.why))

@@ -3,23 +3,21 @@ use mathlib.Core.List.{List, [], ◌∷◌, ◌++◌}
 use mathlib.Core.Path.{◌∙◌, ◌≡◌, ap, ap₂, refl, sym}
 use Prim.Native.Nat.{ℕ}
 use borrow.Author.Tests.{eq-eqb}
-use denote.Enum.Declared.{tag_of}
-use types.Run.{OneOf, miss}
 use lib.ListN.{length, length-replicate, replicate}
 use Rattle.triples.specs.Index.{C}
 use Rattle.answers.proofs.Answered.{first_on}
 use Rattle.answers.specs.Looks.{look_table}
-use Rattle.collections.specs.contracts.Answer.{the_type as reading}
 use Rattle.collections.proofs.Whole.{read_pass}
 use Rattle.collections.specs.Collection.{Collection}
 use Rattle.collections.specs.Layout.{species, trees}
 use Rattle.collections.specs.Reads.{read_answer, read_looks}
-use Rattle.collections.specs.declared.Answer as Reading
 use Rattle.collections.specs.declared.Counts.{Counts}
 use Rattle.listing.specs.Lists.{list_after, list_of}
 use Rattle.papers_text.specs.Lines.{papers_text}
 use Rattle.built_text.specs.Built.{built_text}
 use Rattle.pull_text.specs.Pull.{collection_text, good_text, story_text}
+use Rattle.std.specs.Prelude.{Ok, Err, Result}
+use Rattle.refusals.specs.declared.Refusal.{Refusal}
 
 module _ (c : List ℕ) where
   module _ (g : Collection c) where
@@ -34,13 +32,9 @@ module _ (c : List ℕ) where
     pub story_listed : (n s k : ℕ) (t : List ℕ) → n ≡ species c → k ≡ trees c → t ≡ list_of c → papers_text c k ++ built_text c n s t ≡ story_text c n s
     story_listed n s k t e h q = ap₂ (λ (j : ℕ) (u : List ℕ). papers_text c j ++ built_text c n s u) h (q ∙ sym (list_zeros n e))
 
-  refused_good : (a : Reading.Answer) → OneOf (1 ∷ []) (tag_of reading a) → [] ≡ good_text c a
-  refused_good (Reading.TheVariants.Done x) h = absurd (miss (1 ∷ []) 0 tt h)
-  refused_good (Reading.TheVariants.Refused x) h = refl
+  module _ (a : Result Counts Refusal) (p : a ≡ read_answer c) where
+    pub read_refused : (x : Refusal) → a ≡ Err x → [] ≡ collection_text c
+    read_refused x e = ap (good_text c) (sym e ∙ p)
 
-  module _ (a : Reading.Answer) (p : a ≡ read_answer c) where
-    pub read_refused : OneOf (1 ∷ []) (tag_of reading a) → [] ≡ collection_text c
-    read_refused h = refused_good a h ∙ ap (good_text c) p
-
-    pub read_story : (x : Counts) → a ≡ Reading.TheVariants.Done x → story_text c x.n x.set ≡ collection_text c
+    pub read_story : (x : Counts) → a ≡ Ok x → story_text c x.n x.set ≡ collection_text c
     read_story x e = ap (good_text c) (sym e ∙ p)

@@ -4,7 +4,6 @@ use Rattle.std.proofs.Math.Bool.{So}
 use Rattle.collections.specs.Layout.{body_at, trees}
 use Rattle.collections.specs.Occurs.{occurring}
 use Rattle.collections.specs.Reads.{counts_of, read_answer}
-use Rattle.collections.specs.declared.Answer as Reading
 use Rattle.parsing.specs.Parses.{text_body}
 use Rattle.writing.specs.Texts.{ended}
 use Rattle.papers.specs.Bundled.{bundled}
@@ -13,6 +12,7 @@ use Rattle.papers.specs.Reads.{bodies_of}
 use Rattle.texts.specs.Texts.{texts}
 use Rattle.papers.specs.declared.Found.{Found}
 use Rattle.pull_text.specs.Pull.{pull_text, story_text}
+use Rattle.std.specs.Prelude.{Ok}
 
 -- the papers' collection: "version 1, n, the number of texts, then each body (in the text's order) with its two length bytes"
 abbrev pub collection_of : List ℕ → Found → List ℕ
@@ -20,7 +20,7 @@ collection_of w f = bundled f.n (bodies_of w)
 
 -- the texts of w were read, and f tells of them: their collection is good, with the body of each text, and its lines are what is printed
 pub record GoodPapers (w : List ℕ) (f : Found) : Type 0 where
-  pub read : read_answer (collection_of w f) ≡ Reading.TheVariants.Done (counts_of (collection_of w f))
+  pub read : read_answer (collection_of w f) ≡ Ok (counts_of (collection_of w f))
   pub species_is : (counts_of (collection_of w f)).n ≡ f.n
   pub trees_is : trees (collection_of w f) ≡ length (texts w)
   pub body_is : (k : ℕ) → k < length (texts w) → body_at (collection_of w f) k ≡ text_body (text_at w k)

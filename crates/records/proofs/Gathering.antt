@@ -1,7 +1,6 @@
 -- The species of the records, gathered one record after the other. Assumes nothing.
-use mathlib.Core.Bool.{or-false}
 use mathlib.Core.List.{List, [], ◌∷◌}
-use mathlib.Core.Path.{◌∙◌, ◌≡◌, ap, ap₂, fun_ext, sym}
+use mathlib.Core.Path.{◌∙◌, ◌≡◌, ap, ap₂, sym}
 use Prim.Native.Nat.{◌+◌, ◌<◌, ◌≤◌, ℕ}
 use native.Mathlib.Numerals.{add-one}
 use native.Mathlib.Omega.{arith}
@@ -42,11 +41,6 @@ pub set_more : (s : ℕ) (r : List ℕ) (rs : List (List ℕ)) → gathered_set 
 unfolding occurs_in
 set_more s r rs = union_assoc s _ _ ∙ ap (union s) (sym (number-union 64 (in_record r) (occurs_in rs)))
 
--- no record yet
-pub set_first : (rs : List (List ℕ)) → gathered_set (number 64 (occurs_in [])) rs ≡ number 64 (occurs_in rs)
-unfolding occurs_in
-set_first rs = sym (number-union 64 (occurs_in []) (occurs_in rs))
-
 -- a loop that has come to record i
 module _ (rs : List (List ℕ)) (i : ℕ) where
   pub set_next : (s q : ℕ) → i < length rs → q ≡ union s (number 64 (in_record (get_or rs i []))) → gathered_set q (drop (i + 1) rs) ≡ gathered_set s (drop i rs)
@@ -56,8 +50,3 @@ module _ (rs : List (List ℕ)) (i : ℕ) where
 
   pub set_end : (s : ℕ) → length rs ≤ i → gathered_set s (drop i rs) ≡ s
   set_end s h = ap (gathered_set s) (drop_of_length-le rs h) ∙ set-none s
-
--- one record
-pub occurs_one : (u : List ℕ) → number 64 (occurs_in (u ∷ [])) ≡ number 64 (in_record u)
-unfolding occurs_in
-occurs_one u = ap (number 64) (fun_ext (λ x. or-false (in_record u x)))

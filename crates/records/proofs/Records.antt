@@ -1,17 +1,19 @@
--- Bad records: what a good one has, the steps of the search for the first bad one, and what its place tells. Assumes nothing.
-use mathlib.Core.Bool.{Bool, So, ◌&&◌, cond, false, false≢true, not}
-use mathlib.Core.List.{List, [], ◌∷◌}
+-- Bad records: what a good one has, the search for the first bad one, and what its place tells. Assumes nothing.
+use Rattle.std.proofs.lemmas.List.{get_or-map}
+use Rattle.std.proofs.lemmas.List.Recursion.{is_position_or_len}
+use Rattle.std.specs.List.{position}
+use Rattle.std.specs.Prelude.{None, Some}
+use mathlib.Core.Bool.{Bool, So, ◌&&◌, cond, false, false≢true, not, true}
+use mathlib.Core.List.{List, [], ◌∷◌, map}
 use mathlib.Core.Path.{◌∙◌, ◌≡◌, ap, refl, sym}
 use Prim.Native.Nat.{◌+◌, ◌<◌, ◌≤◌, suc, zero, ℕ}
-use native.Mathlib.Numerals.{add-one}
 use native.Mathlib.Omega.{arith}
 use borrow.Author.Tests.{lt-ltb, ltb-false, ltb-true, not-false, not-true}
 use lib.Dec.{ltb}
-use lib.ListN.{drop, drop_of_length-le, get_or, length}
-use lib.Seq.{drop-cons}
+use lib.ListN.{get_or, length, length-map}
 use Rattle.sets.proofs.Bools.{and_l, and_r, not_i, or_l, or_r, test}
 use Rattle.trees.specs.Triplets.{different}
-use Rattle.records.specs.Records.{bad, bad_record, first_bad}
+use Rattle.records.specs.Records.{bad, bad_at, bad_record, first_bad}
 
 -- ---- three numbers
 
@@ -53,19 +55,6 @@ module _ (n : ℕ) (r : List ℕ) (rs : List (List ℕ)) where
   unfolding first_bad
   first_no h = ap (λ (q : Bool). cond q 0 (suc (first_bad n rs))) h
 
-module _ (n : ℕ) (rs : List (List ℕ)) (i : ℕ) (l : i < length rs) where
-  pub first_here : So (bad_record n (get_or rs i [])) → i + first_bad n (drop i rs) ≡ i
-  first_here h = omega (arith, ap (first_bad n) (drop-cons rs i [] l), first_yes n (get_or rs i []) (drop (suc i) rs) h)
-
-  pub first_next : bad_record n (get_or rs i []) ≡ false → i + first_bad n (drop i rs) ≡ i + 1 + first_bad n (drop (i + 1) rs)
-  first_next h =
-      let q : first_bad n (drop (i + 1) rs) ≡ first_bad n (drop (suc i) rs) = ap (λ (k : ℕ). first_bad n (drop k rs)) (add-one i) in
-      omega (arith, ap (first_bad n) (drop-cons rs i [] l), first_no n (get_or rs i []) (drop (suc i) rs) h)
-
-pub first_end : (n : ℕ) (rs : List (List ℕ)) (i : ℕ) → length rs ≤ i → first_bad n (drop i rs) ≡ 0
-unfolding first_bad
-first_end n rs i h = ap (first_bad n) (drop_of_length-le rs h)
-
 -- ---- what the place tells
 
 pub first_bad-le : (n : ℕ) (rs : List (List ℕ)) → first_bad n rs ≤ length rs
@@ -102,3 +91,25 @@ pub none-first_bad : (n : ℕ) (rs : List (List ℕ)) → ((i : ℕ) → i < len
 none-first_bad n rs f = test (ltb (first_bad n rs) (length rs))
     (λ h. let l = ltb-true _ _ h in absurd (false≢true (sym (f (first_bad n rs) l) ∙ first_bad-found n rs l)))
     (λ h. omega (arith, first_bad-le n rs, ltb-false (first_bad n rs) (length rs) (not-true _ h)))
+
+-- ---- what is read as records
+
+-- the record that the one at place i is read as
+pub record_at : {X : Type 0} (f : X → List ℕ) (xs : List X) (i : ℕ) (x : X) (r : List ℕ) → i < length xs → x ≡ get_or xs i x → r ≡ f x → r ≡ get_or (map f xs) i []
+record_at f xs i x r l e h = h ∙ ap f e ∙ sym (get_or-map f xs i x [] l)
+
+-- the search for the first bad one by std's words
+pub bad_at_is : {X : Type 0} (n : ℕ) (f : X → List ℕ) (xs : List X) → position (λ (x : X). bad_record n (f x)) xs ≡ bad_at n (map f xs)
+unfolding first_bad
+bad_at_is {X} n f xs =
+    rw (length-map xs f)
+    (ap (λ (k : ℕ). cond (ltb k (length xs)) (Some k) None) (sym (is_position_or_len (λ (ys : List X). first_bad n (map f ys)) (λ (x : X). bad_record n (f x)) refl
+    (λ x ys. let e : suc (first_bad n (map f ys)) ≡ 1 + first_bad n (map f ys) = omega arith in ap (λ (k : ℕ). cond (bad_record n (f x)) 0 k) e) xs)))
+
+-- where it finds none, none is bad
+pub bad_at-none : (n : ℕ) (rs : List (List ℕ)) → bad_at n rs ≡ None → first_bad n rs ≡ length rs
+bad_at-none n rs e = go (ltb (first_bad n rs) (length rs)) refl e
+  where
+    go : (b : Bool) → ltb (first_bad n rs) (length rs) ≡ b → cond b (Some (first_bad n rs)) None ≡ None → first_bad n rs ≡ length rs
+    go true h f = cc
+    go false h f = omega (arith, first_bad-le n rs, ltb-false _ _ h)

@@ -1,6 +1,6 @@
 -- A list of records of three numbers, and what it says. Document 01, "Numbers handed back": "Entering takes a lent list of records of three numbers, the first
 -- two being the close pair in either order. Repeats of a triplet are allowed; an empty list gives a table of zeros."
-use Rattle.std.specs.Prelude.{Bool, ◌&&◌, ◌||◌, cond, false, not, List, [], ◌∷◌, suc, ℕ, eqb, ltb, get_or, replicate}
+use Rattle.std.specs.Prelude.{Bool, Option, None, Some, ◌&&◌, ◌||◌, cond, false, not, List, [], ◌∷◌, suc, ℕ, eqb, ltb, get_or, length, replicate}
 use Rattle.sets.specs.Species.{Species}
 use Rattle.tables.specs.Bytes.{enter}
 use Rattle.triples.specs.Index.{C}
@@ -27,6 +27,10 @@ bad_record n r = bad n (left r) (right r) (outer r)
 unfoldable pub first_bad : ℕ → List (List ℕ) → ℕ
 first_bad n [] = 0
 first_bad n (r ∷ rs) = cond (bad_record n r) 0 (suc (first_bad n rs))
+
+-- that place, if there is one
+abbrev pub bad_at : ℕ → List (List ℕ) → Option ℕ
+bad_at n rs = cond (ltb (first_bad n rs) (length rs)) (Some (first_bad n rs)) None
 
 -- the records entered one after the other
 unfoldable pub fill : List (List ℕ) → List ℕ → List ℕ

@@ -1,14 +1,30 @@
 // A list of records of three numbers: the first bad one, and what the good ones put into a table, with the species that they name.
 #![tactic(auto)]
 
-ghost use Rattle.std.specs.Prelude.{◌≡◌, false, [], ◌∷◌, ◌<◌, ◌≤◌, length};
+ghost use Rattle.std.specs.Prelude.{◌≡◌, false, List, [], ◌∷◌, None, ℕ, ◌<◌, ◌≤◌, length, map};
 ghost use Rattle.sets.specs.Sets.{number, union};
 ghost use Rattle.tables.specs.Bytes.{enter};
 ghost use Rattle.triples.specs.Index.{C};
-ghost use Rattle.records.specs.Records.{left, outer, right, bad, bad_record, first_bad, fill, in_record, occurs_in};
+ghost use Rattle.records.specs.Records.{left, outer, right, bad, bad_record, bad_at, fill, in_record, occurs_in};
+
+// What is read as three numbers: two close species, in either order, and a third one.
+pub trait Record: Copy {
+    ghost spelled: { Self → List ℕ };
+
+    fn species(self) -> [u8; 3]
+        ensures { result ≡ spelled self };
+}
+
+impl Record for [u8; 3] {
+    ghost spelled = { λ r. r };
+
+    fn species(self) -> [u8; 3] {
+        self
+    }
+}
 
 // Do three numbers repeat a species, or have one not below n?
-pub fn bad(n: usize, a: usize, b: usize, c: usize) -> bool
+fn bad(n: usize, a: usize, b: usize, c: usize) -> bool
     ensures { result ≡ bad n a b c }
 {
     if a == b || a == c || b == c {
@@ -27,22 +43,15 @@ fn bad_record(n: usize, r: [u8; 3]) -> bool
     bad(n, r[0] as usize, r[1] as usize, r[2] as usize)
 }
 
-// The first bad record; the length where there is none. It only reads.
-pub fn first_bad(n: usize, records: &[[u8; 3]]) -> usize
-    ensures { result ≡ first_bad n records.now }
+// The first bad record, if there is one. It only reads.
+pub fn first_bad<R: Record>(n: usize, records: &[R]) -> Option<usize>
+    ensures { result ≡ bad_at n (map R.spelled records.now) }
 {
-    let mut i = 0;
-    while i < records.len() {
-        if bad_record(n, records[i]) {
-            return i;
-        }
-        i += 1;
-    }
-    i
+    records.iter().position(|r| bad_record(n, r.species()))
 }
 
 // A set, and three species with it.
-pub fn gather(s: u64, a: usize, b: usize, c: usize) -> u64
+fn gather(s: u64, a: usize, b: usize, c: usize) -> u64
     requires { (a < 64) × (b < 64) × (c < 64) }
     ensures { result ≡ union s (number 64 (in_record (a ∷ (b ∷ (c ∷ []))))) }
 {
@@ -62,15 +71,13 @@ fn put_record(table: &mut [u8], n: usize, s: u64, r: [u8; 3]) -> u64
 }
 
 // Enters all records, of which none is bad, and gathers their species.
-pub fn fill(n: usize, s: u64, records: &[[u8; 3]], table: &mut [u8]) -> u64
-    requires { (n ≤ 64) × (length table.old ≡ C n 3) × (first_bad n records.now ≡ length records.now) }
-    ensures { (result ≡ union s (number 64 (occurs_in records.now))) × (table.new ≡ fill records.now table.old) }
+pub fn fill<R: Record>(n: usize, s: u64, records: &[R], table: &mut [u8]) -> u64
+    requires { (n ≤ 64) × (length table.old ≡ C n 3) × (bad_at n (map R.spelled records.now) ≡ None) }
+    ensures { (result ≡ union s (number 64 (occurs_in (map R.spelled records.now)))) × (table.new ≡ fill (map R.spelled records.now) table.old) }
 {
     let mut set = s;
-    let mut i = 0;
-    while i < records.len() {
-        set = put_record(table, n, set, records[i]);
-        i += 1;
+    for r in records {
+        set = put_record(table, n, set, r.species());
     }
     set
 }

@@ -1,15 +1,14 @@
 -- A refusal's number is its place in the list of numbers; no number is 0, no refusal tells more than two values, and each is found again from what it tells. The one table over all
 -- refusals: the rest goes by the place. Assumes nothing.
-use mathlib.Core.Bool.{cond, false, not, true}
-use mathlib.Core.List.{List, [], ◌∷◌, map}
-use mathlib.Core.Logic.{◌≢◌, inl, inr}
-use mathlib.Core.Path.{◌∙◌, ◌≡◌, ap, refl, subst, sym}
+use mathlib.Core.Bool.{cond, false, true}
+use mathlib.Core.List.{List, [], ◌∷◌}
+use mathlib.Core.Logic.{◌≢◌}
+use mathlib.Core.Path.{◌∙◌, ◌≡◌, refl, sym}
 use Prim.Native.Nat.{ℕ, suc, ◌≤◌}
-use borrow.Author.Tests.{eqb-false, leb-true, ne_eqb}
+use borrow.Author.Tests.{eqb-false, leb-true}
 use denote.Enum.Declared.{tag_of}
 use mir.Val.{has_key}
-use types.Run.{OneOf, miss}
-use lib.Dec.{T, eqb, leb}
+use lib.Dec.{eqb, leb}
 use lib.ListN.{get_or, length}
 use Rattle.bodies.specs.declared.Fault.{Fault}
 use Rattle.bodies.specs.declared.Fault.TheVariants.{OnlyChild}
@@ -18,19 +17,18 @@ use Rattle.refusals.specs.Told.{unnamed}
 use Rattle.refusals.specs.Refusals.{refusal_numbers, refusal_told}
 use Rattle.refusals.specs.declared.Refusal.{Refusal}
 use Rattle.refusals.specs.declared.Refusal.TheVariants.{BadByte, BadCounts, BadLength, BadRecord, BadSet, BadTable, BadText, BadTree, BadVersion, Contradicted, EndsEarly, LeftOver, NoTree, Outside, ShortRoom, Unforced}
-use Rattle.refusals.specs.declared.Rule.{Rule}
-use Rattle.refusals.specs.declared.Rule.TheVariants.{Broken, Kept}
+use Rattle.std.specs.Prelude.{Option, Some, None}
 
 -- ---- a refusal from what it tells
 
 abbrev at : ℕ → List ℕ → ℕ
 at i vs = get_or vs i 0
 
-abbrev fault_in : Rule → Fault
-fault_in Kept = OnlyChild
-fault_in (Broken f) = f
+abbrev fault_in : Option Fault → Fault
+fault_in None = OnlyChild
+fault_in (Some f) = f
 
-abbrev refusal_in : ℕ → List ℕ → Rule → Refusal
+abbrev refusal_in : ℕ → List ℕ → Option Fault → Refusal
 refusal_in k vs r =
     cond (eqb k 1) BadVersion
     (cond (eqb k 2) BadCounts
@@ -86,18 +84,6 @@ pub refusal_apart : (x y : Refusal) → (refusal_told x).number ≡ (refusal_tol
     → x ≡ y
 refusal_apart x y p q r = sym (row x).3 ∙ rw (p, q, r) (row y).3
 
-abbrev pub number_at : ℕ → ℕ
-number_at i = get_or refusal_numbers i 0
-
-at_later : (j : ℕ) (l : List ℕ) (i : ℕ) → OneOf (j ∷ l) i → OneOf (map number_at (j ∷ l)) (number_at i)
-at_later j [] i h = ap number_at h
-at_later j (k ∷ l) i (inl h) = inl (ap number_at h)
-at_later j (k ∷ l) i (inr h) = inr (at_later k l i h)
-
-at_places : (l : List ℕ) (i : ℕ) → OneOf l i → OneOf (map number_at l) (number_at i)
-at_places [] i h = absurd h
-at_places (j ∷ l) i h = at_later j l i h
-
 -- the places of the numbers l, counted from i on, but for those of the numbers ks
 abbrev places_from : List ℕ → List ℕ → ℕ → List ℕ
 places_from ks [] i = []
@@ -106,8 +92,3 @@ places_from ks (k ∷ l) i = cond (has_key ks k) (places_from ks l (suc i)) (i �
 -- the places of all refusals but those with the numbers ks
 abbrev pub places_but : List ℕ → List ℕ
 places_but ks = places_from ks refusal_numbers 0
-
--- a refusal at one of the places l has no number but theirs
-pub number-not : (l : List ℕ) (x : Refusal) (k : ℕ) → T (not (has_key (map number_at l) k)) → OneOf l (tag_of refusal x) → eqb (refusal_told x).number k ≡ false
-number-not l x k out h =
-    ne_eqb (refusal_told x).number k (λ e. miss (map number_at l) k out (subst (OneOf (map number_at l)) (sym (row x).0 ∙ e) (at_places l (tag_of refusal x) h)))

@@ -1,22 +1,18 @@
 -- What is told, without the names of the values. Document 01, "Numbers handed back".
-use Rattle.std.specs.Prelude.{List, [], ◌∷◌, ◌++◌, ◌≡◌, ℕ, take}
+use Rattle.std.specs.Prelude.{[], ◌∷◌, ◌++◌, ◌≡◌, ℕ, take}
 use Rattle.refusals.specs.Told.{Told, unnamed}
 use Rattle.refusals.specs.declared.Reply.{Reply}
-
--- the values of a reply: the first of its four
-abbrev pub values_of : Reply → List ℕ
-values_of r = take r.count r.values
 
 -- r says what is told: the number, the values without their names, and the rule
 pub record Replies (t : Told) (r : Reply) : Type 0 where
   pub number : r.number ≡ t.number
-  pub values : values_of r ≡ unnamed t.values
+  pub values : r.values ≡ unnamed t.values
   pub rule : r.rule ≡ t.rule
 
 -- q says what r says, and c behind the values; of five the first four
 pub record Further (r : Reply) (c : ℕ) (q : Reply) : Type 0 where
   pub number : q.number ≡ r.number
-  pub values : values_of q ≡ take 4 (values_of r ++ (c ∷ []))
+  pub values : q.values ≡ take 4 (r.values ++ (c ∷ []))
   pub rule : q.rule ≡ r.rule
 
 -- different answers are told differently, even without the names of the values

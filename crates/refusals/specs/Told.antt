@@ -1,7 +1,7 @@
 -- Document 01, "Numbers handed back": a number, and what is returned with it.
 use Rattle.std.specs.Prelude.{List, [], ◌∷◌, ℕ}
-use Rattle.refusals.specs.declared.Rule.{Rule}
-use Rattle.refusals.specs.declared.Rule.TheVariants.{Kept}
+use Rattle.std.specs.Prelude.{Option, None}
+use Rattle.bodies.specs.declared.Fault.{Fault}
 
 -- what the table lists as returned with a number, by its name there
 pub data Name : Type 0 where
@@ -42,7 +42,7 @@ unnamed (v ∷ l) = v.number ∷ unnamed l
 pub record Told : Type 0 where
   pub number : ℕ
   pub values : List Value
-  pub rule : Rule
+  pub rule : Option Fault
 
 abbrev pub told : ℕ → List Value → Told
-told k vs = record { number = k; values = vs; rule = Kept }
+told k vs = record { number = k; values = vs; rule = None }

@@ -1,21 +1,17 @@
 // The refusals of document 01's table, and a reply: a number, the values returned with it, and the rule that is broken. That of each refusal, and one value more behind a reply.
 #![tactic(auto)]
 
+ghost use Rattle.std.specs.Prelude.{◌≡◌, [], ◌∷◌, ◌++◌, ◌≤◌, None, length, take};
 ghost use Rattle.refusals.specs.Refusals.{refusal_told};
 ghost use Rattle.refusals.specs.Replies.{Further, Replies};
+
+use std::marker::Model;
 
 // Where an entered triplet differs from the tree: the triple's index, and its byte in the table.
 #[derive(Clone, Copy)]
 pub struct Contradiction {
     pub index: usize,
     pub byte: u8,
-}
-
-// Whether a tree keeps the rules, or which one it breaks.
-#[derive(Clone, Copy)]
-pub enum Rule {
-    Kept,
-    Broken(bodies::Fault),
 }
 
 // Document 01's table, a case for each number.
@@ -39,137 +35,128 @@ pub enum Refusal {
     Outside(usize),
 }
 
-// A number, with the first `count` of the values, and whether a rule is broken.
-#[derive(Clone, Copy)]
+impl From<bodies::Broken> for Refusal {
+    ghost use Rattle.refusals.specs.declared.Refusal.TheVariants.{BadTree};
+
+    ghost from_gives = { λ b x. x ≡ BadTree b };
+
+    fn from(b: bodies::Broken) -> Refusal {
+        Refusal::BadTree(b)
+    }
+}
+
+// Up to four numbers, one after the other.
+#[derive(Drop)]
+pub struct Values {
+    held: [usize; 4],
+    count: usize,
+}
+
+impl Model for Values {
+    ghost use Rattle.std.specs.Prelude.{ℕ, List, ◌≤◌, take};
+
+    ghost Value = { List ℕ };
+
+    ghost view = { λ v. take v.count v.held };
+
+    ghost invariant = { λ v. v.count ≤ 4 };
+}
+
+impl Values {
+    pub fn of(l: &[usize]) -> Values
+        requires { length l.now ≤ 4 }
+        ensures { result ≡ l.now }
+    {
+        let mut held = [0; 4];
+        held[..l.len()].copy_from_slice(l);
+        Values {
+            held,
+            count: l.len(),
+        }
+    }
+
+    // Puts x behind them, where there is room for it.
+    pub fn push(&mut self, x: usize)
+        ensures { self.new ≡ take 4 (self.old ++ x ∷ []) }
+    {
+        if self.count < 4 {
+            self.held[self.count] = x;
+            self.count += 1;
+        }
+    }
+
+    pub fn as_slice(&self) -> &[usize]
+        ensures value { result.now ≡ self.now }
+        ensures few { length result.now ≤ 4 }
+    {
+        &self.held[..self.count]
+    }
+}
+
+// A number, the values that are returned with it, and the rule that is broken, if one is.
+#[derive(Drop)]
 pub struct Reply {
     pub number: usize,
-    pub count: usize,
-    pub values: [usize; 4],
-    pub rule: Rule,
+    pub values: Values,
+    pub rule: Option<bodies::Fault>,
 }
 
-// The reply of a refusal.
-pub fn reply_of(x: Refusal) -> Reply
-    ensures { Replies (refusal_told x) result }
-{
-    match x {
-        Refusal::BadVersion => Reply {
-            number: 1,
-            count: 0,
-            values: [0, 0, 0, 0],
-            rule: Rule::Kept,
-        },
-        Refusal::BadCounts => Reply {
-            number: 2,
-            count: 0,
-            values: [0, 0, 0, 0],
-            rule: Rule::Kept,
-        },
-        Refusal::EndsEarly(k) => Reply {
-            number: 3,
-            count: 1,
-            values: [k, 0, 0, 0],
-            rule: Rule::Kept,
-        },
-        Refusal::LeftOver(m) => Reply {
-            number: 4,
-            count: 1,
-            values: [m, 0, 0, 0],
-            rule: Rule::Kept,
-        },
-        Refusal::BadLength(k) => Reply {
-            number: 5,
-            count: 1,
-            values: [k, 0, 0, 0],
-            rule: Rule::Kept,
-        },
-        Refusal::BadTree(b) => {
-            let f = b.fault;
-            Reply {
-                number: 6,
-                count: 2,
-                values: [b.tree, b.node, 0, 0],
-                rule: Rule::Broken(f),
-            }
+impl Reply {
+    // The reply of a number and values alone.
+    pub fn told(number: usize, values: &[usize]) -> Reply
+        requires { length values.now ≤ 4 }
+        ensures { result ≡ record { number = number; values = values.now; rule = None } }
+    {
+        Reply {
+            number,
+            values: Values::of(values),
+            rule: None,
         }
-        Refusal::BadTable => Reply {
-            number: 7,
-            count: 0,
-            values: [0, 0, 0, 0],
-            rule: Rule::Kept,
-        },
-        Refusal::BadByte(i) => Reply {
-            number: 8,
-            count: 1,
-            values: [i, 0, 0, 0],
-            rule: Rule::Kept,
-        },
-        Refusal::ShortRoom => Reply {
-            number: 9,
-            count: 0,
-            values: [0, 0, 0, 0],
-            rule: Rule::Kept,
-        },
-        Refusal::NoTree(u) => Reply {
-            number: 10,
-            count: 1,
-            values: [u as usize, 0, 0, 0],
-            rule: Rule::Kept,
-        },
-        Refusal::Contradicted(c) => Reply {
-            number: 11,
-            count: 2,
-            values: [c.index, c.byte as usize, 0, 0],
-            rule: Rule::Kept,
-        },
-        Refusal::Unforced(i) => Reply {
-            number: 12,
-            count: 1,
-            values: [i, 0, 0, 0],
-            rule: Rule::Kept,
-        },
-        Refusal::BadRecord(i) => Reply {
-            number: 13,
-            count: 1,
-            values: [i, 0, 0, 0],
-            rule: Rule::Kept,
-        },
-        Refusal::BadText(p) => Reply {
-            number: 14,
-            count: 1,
-            values: [p, 0, 0, 0],
-            rule: Rule::Kept,
-        },
-        Refusal::BadSet => Reply {
-            number: 15,
-            count: 0,
-            values: [0, 0, 0, 0],
-            rule: Rule::Kept,
-        },
-        Refusal::Outside(i) => Reply {
-            number: 16,
-            count: 1,
-            values: [i, 0, 0, 0],
-            rule: Rule::Kept,
-        },
+    }
+
+    // The same with c behind its values, where there is room for it.
+    pub fn further(self, c: usize) -> Reply
+        ensures { Further self c result }
+    {
+        let Reply {
+            number,
+            mut values,
+            rule,
+        } = self;
+        values.push(c);
+        Reply {
+            number,
+            values,
+            rule,
+        }
     }
 }
 
-// A reply with c behind its values, where there is room for it.
-pub fn further(r: Reply, c: usize) -> Reply
-    ensures { Further r c result }
-{
-    let count = r.count;
-    if count >= 4 {
-        return r;
-    }
-    let mut values = r.values;
-    values[count] = c;
-    let rule = r.rule;
-    Reply {
-        number: r.number,
-        count: count + 1,
-        values: values,
-        rule: rule,
+impl From<Refusal> for Reply {
+    ghost from_gives = { λ x r. Replies (refusal_told x) r };
+
+    fn from(x: Refusal) -> Reply {
+        match x {
+            Refusal::BadVersion => Reply::told(1, &[]),
+            Refusal::BadCounts => Reply::told(2, &[]),
+            Refusal::EndsEarly(k) => Reply::told(3, &[k]),
+            Refusal::LeftOver(m) => Reply::told(4, &[m]),
+            Refusal::BadLength(k) => Reply::told(5, &[k]),
+            Refusal::BadTree(b) => Reply {
+                number: 6,
+                values: Values::of(&[b.tree, b.node]),
+                rule: Some(b.fault),
+            },
+            Refusal::BadTable => Reply::told(7, &[]),
+            Refusal::BadByte(i) => Reply::told(8, &[i]),
+            Refusal::ShortRoom => Reply::told(9, &[]),
+            Refusal::NoTree(u) => Reply::told(10, &[u as usize]),
+            Refusal::Contradicted(c) => Reply::told(11, &[c.index, c.byte as usize]),
+            Refusal::Unforced(i) => Reply::told(12, &[i]),
+            Refusal::BadRecord(i) => Reply::told(13, &[i]),
+            Refusal::BadText(p) => Reply::told(14, &[p]),
+            Refusal::BadSet => Reply::told(15, &[]),
+            Refusal::Outside(i) => Reply::told(16, &[i]),
+        }
     }
 }

@@ -1,4 +1,2 @@
 -- The laws of the line of a text that is refused.
 pub mod Lengths
-pub mod Told
-pub mod Texts

@@ -1,128 +1,119 @@
 // The line of a text that is refused: where in the input the text is wrong, what stands there, and what may stand there, in words.
-#![tactic(auto)]
+#![tactic(auto, using(writing::proofs::Writing::writes))]
 
 ghost use Rattle.std.specs.Prelude.{◌≡◌, ◌++◌, ◌-◌, ◌≤◌, length};
-ghost use Rattle.writing.specs.Texts.{decimal};
-ghost use Rattle.writing.specs.Writes.{Writes};
+ghost use Rattle.writing.specs.Texts.{decimal, wrote};
 ghost use Rattle.places.specs.Causes.{cause_of};
 ghost use Rattle.places.specs.NodePlaces.{place_in};
-ghost use Rattle.refused_text.specs.Refused.{visible, byte_text, found, wrong_text, broken_text, what_text, where_text, text_in, refused_line};
+ghost use Rattle.refused_text.specs.Refused.{byte_text, found, wrong_text, broken_text, what_text, where_text, text_in, refused_line};
+
+use writing::Text;
 
 // The longest text.
 const LONGEST: usize = 4096;
 
 // Writes a word and a number.
-fn put_counted(out: &mut [u8], at: usize, w: &[u8], n: u64) -> usize
-    ensures { Writes out.old at (w.now ++ decimal n) out.new result }
+fn put_counted<const ROOM: usize>(out: &mut Text<ROOM>, w: &[u8], n: u64)
+    ensures { out.new ≡ wrote ROOM out.old (w.now ++ decimal n) }
 {
-    let a = writing::put_word(out, at, w);
-    writing::put_decimal(out, a, n)
-}
-
-// Is the byte a sign that can be seen?
-fn visible(b: u8) -> bool
-    ensures { result ≡ visible b }
-{
-    33 <= b && b <= 126
+    out.word(w);
+    out.decimal(n);
 }
 
 // Writes a byte, so that it can be seen.
-fn put_byte(out: &mut [u8], at: usize, b: u8) -> usize
-    ensures { Writes out.old at (byte_text b) out.new result }
+fn put_byte<const ROOM: usize>(out: &mut Text<ROOM>, b: u8)
+    ensures { out.new ≡ wrote ROOM out.old (byte_text b) }
 {
     if numerals::blank(b) {
-        return writing::put_word(out, at, b"a blank");
+        out.word(b"a blank");
+    } else if b.is_ascii_graphic() {
+        out.word(&[b'\'', b, b'\'']);
+    } else {
+        put_counted(out, b"byte ", u64::from(b));
     }
-    if visible(b) {
-        let w = [b'\'', b, b'\''];
-        return writing::put_word(out, at, &w);
-    }
-    put_counted(out, at, b"byte ", b as u64)
 }
 
 // Writes what stands at place q of the text.
-fn put_found(out: &mut [u8], at: usize, text: &[u8], q: usize) -> usize
+fn put_found<const ROOM: usize>(out: &mut Text<ROOM>, text: &[u8], q: usize)
     requires { q ≤ length text.now }
-    ensures { Writes out.old at (found text.now q) out.new result }
+    ensures { out.new ≡ wrote ROOM out.old (found text.now q) }
 {
-    if q == text.len() {
-        return writing::put_word(out, at, b"the end");
+    match text.get(q) {
+        Some(b) => put_byte(out, *b),
+        None => out.word(b"the end"),
     }
-    put_byte(out, at, text[q])
 }
 
 // Writes what is wrong at place q of the text.
-fn put_wrong(out: &mut [u8], at: usize, text: &[u8], q: usize) -> usize
+fn put_wrong<const ROOM: usize>(out: &mut Text<ROOM>, text: &[u8], q: usize)
     requires { q ≤ length text.now }
-    ensures { Writes out.old at (wrong_text text.now q) out.new result }
+    ensures { out.new ≡ wrote ROOM out.old (wrong_text text.now q) }
 {
     if q >= LONGEST {
-        return writing::put_word(out, at, b"a text has at most 4096 bytes");
+        out.word(b"a text has at most 4096 bytes");
+        return;
     }
-    let a = writing::put_word(out, at, b"found ");
-    let b = put_found(out, a, text, q);
-    let c = writing::put_word(out, b, b", expected ");
-    standing::put_expected(out, c, text, q)
+    out.word(b"found ");
+    put_found(out, text, q);
+    out.word(b", expected ");
+    standing::put_expected(out, text, q);
 }
 
 // Writes which rule the tree of a text breaks.
-fn put_broken(out: &mut [u8], at: usize, f: bodies::Fault) -> usize
-    ensures { Writes out.old at (broken_text f) out.new result }
+fn put_broken<const ROOM: usize>(out: &mut Text<ROOM>, f: bodies::Fault)
+    ensures { out.new ≡ wrote ROOM out.old (broken_text f) }
 {
     match f {
-        bodies::Fault::BadParent(_) => writing::put_word(out, at, b"this is no tree"),
+        bodies::Fault::BadParent(_) => out.word(b"this is no tree"),
         bodies::Fault::BadSpecies(s) => {
-            let a = put_counted(out, at, b"species ", s as u64);
-            writing::put_word(out, a, b", and the highest is 63")
+            put_counted(out, b"species ", u64::from(s));
+            out.word(b", and the highest is 63");
         }
-        bodies::Fault::SeenBefore(_) => writing::put_word(out, at, b"this species stands twice"),
-        bodies::Fault::OnlyChild => writing::put_word(out, at, b"this bracket has one child"),
+        bodies::Fault::SeenBefore(_) => out.word(b"this species stands twice"),
+        bodies::Fault::OnlyChild => out.word(b"this bracket has one child"),
     }
 }
 
 // Writes why the text is refused.
-fn put_what(out: &mut [u8], at: usize, text: &[u8], c: places::Cause) -> usize
+fn put_what<const ROOM: usize>(out: &mut Text<ROOM>, text: &[u8], c: places::Cause)
     requires { place_in text.now c ≤ length text.now }
-    ensures { Writes out.old at (what_text text.now c) out.new result }
+    ensures { out.new ≡ wrote ROOM out.old (what_text text.now c) }
 {
     match c {
-        places::Cause::AtPlace(q) => put_wrong(out, at, text, q),
-        places::Cause::AtNode(x) => {
-            let f = x.fault;
-            put_broken(out, at, f)
-        }
-        places::Cause::Other => at,
+        places::Cause::AtPlace(q) => put_wrong(out, text, q),
+        places::Cause::AtNode(x) => put_broken(out, x.fault),
+        places::Cause::Other => {}
     }
 }
 
 // Writes the paper's number and the place.
-fn put_where(out: &mut [u8], at: usize, paper: usize, x: places::LineColumn) -> usize
-    ensures { Writes out.old at (where_text paper x) out.new result }
+fn put_where<const ROOM: usize>(out: &mut Text<ROOM>, paper: usize, x: places::LineColumn)
+    ensures { out.new ≡ wrote ROOM out.old (where_text paper x) }
 {
-    let a = put_counted(out, at, b"refused: paper ", paper as u64);
-    let b = put_counted(out, a, b", line ", x.line as u64);
-    let c = put_counted(out, b, b", column ", x.column as u64);
-    writing::put_word(out, c, b": ")
+    put_counted(out, b"refused: paper ", paper as u64);
+    put_counted(out, b", line ", x.line as u64);
+    put_counted(out, b", column ", x.column as u64);
+    out.word(b": ");
 }
 
 // Writes the line of a text that is refused: paper number `paper`, the bytes of the input from `start` up to `end`.
-pub fn put_refused(
-    out: &mut [u8],
-    at: usize,
+#[tactic(auto, using(writing::proofs::Writing::writes), unfolding(crate::specs::Refused::refused_line))]
+pub fn put_refused<const ROOM: usize>(
+    out: &mut Text<ROOM>,
     input: &[u8],
     paper: usize,
     start: usize,
     end: usize,
     why: refusals::Refusal,
-) -> usize
+)
     requires start_le_end { (start ≤ end) × (end ≤ length input.now) × (end ≤ 65536) }
     requires why_bound { place_in (text_in input.now start end) (cause_of why) ≤ end - start }
-    ensures { Writes out.old at (refused_line input.now paper start end why) out.new result }
+    ensures { out.new ≡ wrote ROOM out.old (refused_line input.now paper start end why) }
 {
     let text = &input[start..end];
     let c = places::cause_of(why);
     let p = start + places::place_in(text, c);
-    let a = put_where(out, at, paper, places::line_column(&input[..p]));
-    let b = put_what(out, a, text, c);
-    writing::put(out, b, b'\n')
+    put_where(out, paper, places::line_column(&input[..p]));
+    put_what(out, text, c);
+    out.push(b'\n');
 }

@@ -8,14 +8,13 @@ use Rattle.bodies.specs.declared.Fault.{Fault}
 use Rattle.bodies.specs.declared.Fault.TheVariants.{BadParent, BadSpecies, SeenBefore, OnlyChild}
 use Rattle.refusals.specs.Told.{Told, Value, unnamed}
 use Rattle.answers.specs.Looks.{after}
-use Rattle.answers.specs.declared.Look.{Look}
-use Rattle.answers.specs.declared.Look.TheVariants.{Pass, Refuse}
-use Rattle.refusals.specs.declared.Rule.{Rule}
-use Rattle.refusals.specs.declared.Rule.TheVariants.{Kept, Broken}
+use Rattle.answers.specs.Looks.{Look}
 use Rattle.writing.proofs.Digits.{decimal_few}
 use Rattle.writing.proofs.Spaced.{spaced_few}
 use Rattle.writing.specs.Texts.{decimal, ended, spaced}
 use Rattle.reply_text.specs.Text.{barred, fault_text, rule_text, told_text}
+use Rattle.std.specs.Prelude.{Ok, Err}
+use Rattle.std.specs.Prelude.{Ok, Err, Option, Some, None}
 
 fault_few : (f : Fault) → length (fault_text f) ≤ 29
 fault_few (BadParent p) = omega (arith, decimal_few p)
@@ -23,9 +22,9 @@ fault_few (BadSpecies s) = omega (arith, decimal_few s)
 fault_few (SeenBefore i) = omega (arith, decimal_few i)
 fault_few OnlyChild = omega arith
 
-rule_few : (e : Rule) → length (rule_text e) ≤ 29
-rule_few Kept = omega arith
-rule_few (Broken f) = fault_few f
+rule_few : (e : Option Fault) → length (rule_text e) ≤ 29
+rule_few None = omega arith
+rule_few (Some f) = fault_few f
 
 unnamed-length : (vs : List Value) → length (unnamed vs) ≡ length vs
 unnamed-length [] = refl
@@ -50,12 +49,12 @@ pub barred_few : (l : List ℕ) → length (barred l) ≤ 21 * length l + 2
 barred_few l = omega (arith, spaced_few l)
 
 -- what was lent stays as long as it was
-after-length : (k : Look) (m o : List ℕ) → (k ≡ Pass → length m ≡ length o) → length (after k m o) ≡ length o
-after-length Pass m o h = h refl
-after-length (Refuse x) m o h = refl
+after-length : (k : Look) (m o : List ℕ) → (k ≡ Ok tt → length m ≡ length o) → length (after k m o) ≡ length o
+after-length (Ok _) m o h = h refl
+after-length (Err x) m o h = refl
 
 -- the line of what is told, with what an operation left of o behind it
-pub after_few : (t : Told) (k : Look) (m o : List ℕ) → length t.values ≤ 3 → (k ≡ Pass → length m ≡ length o) → length (ended (told_text t ++ barred (after k m o))) ≤ 21 * length o + 150
+pub after_few : (t : Told) (k : Look) (m o : List ℕ) → length t.values ≤ 3 → (k ≡ Ok tt → length m ≡ length o) → length (ended (told_text t ++ barred (after k m o))) ≤ 21 * length o + 150
 after_few t k m o h l =
     let e = after-length k m o l in
     lent_few t h (barred (after k m o)) (length o) (omega (arith, barred_few (after k m o), e))

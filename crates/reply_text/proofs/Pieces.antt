@@ -1,20 +1,12 @@
 -- The pieces of a line, put together. Assumes nothing.
-use mathlib.Core.List.{List, [], ◌∷◌, ◌++◌, append_assoc}
+use mathlib.Core.List.{List, ◌++◌}
 use mathlib.Core.Path.{◌∙◌, ◌≡◌, ap}
 use Prim.Native.Nat.{ℕ}
 use Rattle.refusals.specs.Told.{Told}
 use Rattle.refusals.specs.Replies.{Replies}
 use Rattle.refusals.specs.declared.Reply.{Reply}
-use Rattle.writing.specs.Texts.{ended, spaced}
+use Rattle.writing.specs.Texts.{ended}
 use Rattle.reply_text.specs.Text.{barred, reply_text, told_text}
-
--- a bar, and then the numbers
-pub bar_behind : (s l : List ℕ) → (s ++ (32 ∷ 124 ∷ [])) ++ spaced l ≡ s ++ barred l
-bar_behind s l = append_assoc s (32 ∷ 124 ∷ []) (spaced l)
-
--- a room, and then a list of sets
-pub both_behind : (s l d : List ℕ) → ((s ++ barred l) ++ (32 ∷ 124 ∷ [])) ++ spaced d ≡ s ++ (barred l ++ barred d)
-both_behind s l d = bar_behind (s ++ barred l) d ∙ append_assoc s (barred l) (barred d)
 
 -- s is the reply to the answer r, which is a; what is lent is o'
 module _ {A : Type 0} (tell : A → Told) {r a : A} {s : Reply} where

@@ -4,11 +4,9 @@ use Rattle.std.specs.Prelude.{List, [], ◌∷◌, ◌++◌, ℕ}
 use Rattle.bodies.specs.declared.Fault.{Fault}
 use Rattle.bodies.specs.declared.Fault.TheVariants.{BadParent, BadSpecies, SeenBefore, OnlyChild}
 use Rattle.refusals.specs.Told.{Told, unnamed}
-use Rattle.refusals.specs.declared.Rule.{Rule}
-use Rattle.refusals.specs.declared.Rule.TheVariants.{Kept, Broken}
-use Rattle.refusals.specs.Replies.{values_of}
 use Rattle.refusals.specs.declared.Reply.{Reply}
 use Rattle.writing.specs.Texts.{decimal, spaced}
+use Rattle.std.specs.Prelude.{Option, Some, None}
 
 -- a space, and the words parent, species, seen, only
 abbrev pub parent_word : List ℕ
@@ -31,19 +29,19 @@ fault_text (SeenBefore i) = seen_word ++ (32 ∷ decimal i)
 fault_text OnlyChild = only_word
 
 -- where a rule is broken, which one
-abbrev pub rule_text : Rule → List ℕ
-rule_text Kept = []
-rule_text (Broken f) = fault_text f
+abbrev pub rule_text : Option Fault → List ℕ
+rule_text None = []
+rule_text (Some f) = fault_text f
 
 -- the number, the values without their names, each after a space, and the rule
-abbrev pub plain_text : ℕ → List ℕ → Rule → List ℕ
+abbrev pub plain_text : ℕ → List ℕ → Option Fault → List ℕ
 plain_text k vs e = decimal k ++ (spaced vs ++ rule_text e)
 
 abbrev pub told_text : Told → List ℕ
 told_text t = plain_text t.number (unnamed t.values) t.rule
 
 abbrev pub reply_text : Reply → List ℕ
-reply_text s = plain_text s.number (values_of s) s.rule
+reply_text s = plain_text s.number (s.values) s.rule
 
 -- a space, a bar, and each byte, or each set, after a space
 abbrev pub barred : List ℕ → List ℕ

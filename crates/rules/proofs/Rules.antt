@@ -12,8 +12,7 @@ use Rattle.sets.proofs.Bools.{and_i, and_l, and_r, ne_e, test}
 use Rattle.rules.specs.Faults.{earlier, fault, first_break, node_fault, or_else, parent_fault, right_species, seen}
 use Rattle.bodies.specs.Nodes.{Good, Nodes, children_among, children}
 use Rattle.bodies.specs.declared.Broken.{Broken}
-use Rattle.bodies.specs.declared.Verdict.{Verdict}
-use Rattle.bodies.specs.declared.Verdict.TheVariants.{Breaks, Fine}
+use Rattle.std.specs.Prelude.{Ok, Err, Result}
 
 -- ---- one step of each walk over the nodes j to c - 1
 
@@ -28,9 +27,6 @@ among_hit v i c j h e = rw (left c j h, eq-eqb _ _ e, add-one j) refl
 
 pub among_miss : (v : Nodes) (i c j : ℕ) → j < c → (v.parent j ≡ i → ⊥) → length (children_among v i (c - j) j) ≡ length (children_among v i (c - (j + 1)) (j + 1))
 among_miss v i c j h e = rw (left c j h, ne_eqb _ _ e, add-one j) refl
-
-pub among_end : (v : Nodes) (i c j : ℕ) → c ≤ j → length (children_among v i (c - j) j) ≡ 0
-among_end v i c j h = rw (none c j h) refl
 
 -- node j is a leaf with species s
 abbrev pub leaf_of : Nodes → ℕ → ℕ → Bool
@@ -66,19 +62,15 @@ seen_inner v s c j h z = test (eqb (v.species j) s)
     (λ e. seen_miss v s c j h (rw (e, ne_eqb _ _ z) refl))
     (λ e. seen_other v s c j h (ne_e _ _ e))
 
--- of a node with no children, the walk begins at node 0
-pub earlier_leaf : (v : Nodes) (s m i : ℕ) → m ≡ 0 → earlier v s m i ≡ seen v s (i - 0) 0
-earlier_leaf v s m i z = let q : i - 0 ≡ i = omega arith in rw (q, eq-eqb m 0 z) refl
-
-pub first_stop : (f : ℕ → Verdict) (c i : ℕ) (b : Broken) → i < c → f i ≡ Breaks b → first_break f (c - i) i ≡ Breaks b
+pub first_stop : (f : ℕ → Result (Unit {0}) Broken) (c i : ℕ) (b : Broken) → i < c → f i ≡ Err b → first_break f (c - i) i ≡ Err b
 unfolding first_break
 first_stop f c i b h e = rw (left c i h, e) refl
 
-pub first_on : (f : ℕ → Verdict) (c i : ℕ) → i < c → f i ≡ Fine → first_break f (c - i) i ≡ first_break f (c - (i + 1)) (i + 1)
+pub first_on : (f : ℕ → Result (Unit {0}) Broken) (c i : ℕ) → i < c → f i ≡ Ok tt → first_break f (c - i) i ≡ first_break f (c - (i + 1)) (i + 1)
 unfolding first_break
 first_on f c i h e = rw (left c i h, e, add-one i) refl
 
-pub first_end : (f : ℕ → Verdict) (c i : ℕ) → c ≤ i → first_break f (c - i) i ≡ Fine
+pub first_end : (f : ℕ → Result (Unit {0}) Broken) (c i : ℕ) → c ≤ i → first_break f (c - i) i ≡ Ok tt
 unfolding first_break
 first_end f c i h = rw (none c i h) refl
 
@@ -107,12 +99,12 @@ seen-least v s (suc m) j x l h p = go (leaf_of v s j) refl (λ l h. seen-least v
         (λ q. absurd (false≢true (sym e ∙ subst (λ (y : ℕ). So (leaf_of v s y)) (sym (eqb-true j x q)) p)))
         (λ q. let ne : j ≡ x → ⊥ = ne_e j x q in ih (omega arith) (omega arith))
 
-or_fine : (a b : Verdict) → or_else a b ≡ Fine → (a ≡ Fine) × (b ≡ Fine)
-or_fine Fine b h = (refl, h)
-or_fine (Breaks x) b h = let z : ◌≡◌ {A = ℕ} 0 1 = cc in absurd (omega arith)
+or_fine : (a b : Result (Unit {0}) Broken) → or_else a b ≡ Ok tt → (a ≡ Ok tt) × (b ≡ Ok tt)
+or_fine (Ok _) b h = (refl, h)
+or_fine (Err x) b h = let z : ◌≡◌ {A = ℕ} 0 1 = cc in absurd (omega arith)
 
 -- a walk is fine exactly when each node on it is
-pub first_fine : (f : ℕ → Verdict) (m i : ℕ) → first_break f m i ≡ Fine → (j : ℕ) → i ≤ j → j < i + m → f j ≡ Fine
+pub first_fine : (f : ℕ → Result (Unit {0}) Broken) (m i : ℕ) → first_break f m i ≡ Ok tt → (j : ℕ) → i ≤ j → j < i + m → f j ≡ Ok tt
 unfolding first_break
 first_fine f zero i h j l lt = absurd (omega arith)
 first_fine f (suc m) i h j l lt =
@@ -121,19 +113,19 @@ first_fine f (suc m) i h j l lt =
     (λ e. ap f (sym (eqb-true i j e)) ∙ p.0)
     (λ e. let ne : i ≡ j → ⊥ = ne_e i j e in first_fine f m (suc i) p.1 j (omega arith) (omega arith))
 
-pub fine_first : (f : ℕ → Verdict) (m i : ℕ) → ((j : ℕ) → i ≤ j → j < i + m → f j ≡ Fine) → first_break f m i ≡ Fine
+pub fine_first : (f : ℕ → Result (Unit {0}) Broken) (m i : ℕ) → ((j : ℕ) → i ≤ j → j < i + m → f j ≡ Ok tt) → first_break f m i ≡ Ok tt
 unfolding first_break
 fine_first f zero i h = refl
 fine_first f (suc m) i h = rw (h i (omega arith) (omega arith)) (fine_first f m (suc i) (λ j l lt. h j (omega arith) (omega arith)))
 
 -- ---- no fault exactly when good
 
-both : (b : Bool) (w : Verdict) (x : Broken) → cond b w (Breaks x) ≡ Fine → (b ≡ true) × (w ≡ Fine)
+both : (b : Bool) (w : Result (Unit {0}) Broken) (x : Broken) → cond b w (Err x) ≡ Ok tt → (b ≡ true) × (w ≡ Ok tt)
 both true w x h = (refl, h)
 both false w x h = let z : ◌≡◌ {A = ℕ} 0 1 = cc in absurd (omega arith)
 
 -- a rule that is not broken, and the rules behind it
-past : (b : Bool) (x : Broken) (w : Verdict) → cond b (Breaks x) w ≡ Fine → (b ≡ false) × (w ≡ Fine)
+past : (b : Bool) (x : Broken) (w : Result (Unit {0}) Broken) → cond b (Err x) w ≡ Ok tt → (b ≡ false) × (w ≡ Ok tt)
 past false x w h = (refl, h)
 past true x w h = let z : ◌≡◌ {A = ℕ} 0 1 = cc in absurd (omega arith)
 
@@ -149,15 +141,15 @@ record Kept (n : ℕ) (v : Nodes) (i : ℕ) : Type 0 where
   once : length (children v i) ≡ 0 → (j : ℕ) → j < i → length (children v j) ≡ 0 → v.species j ≡ v.species i → ⊥
 
 module _ (k n : ℕ) (v : Nodes) where
-  fine_hung : (i : ℕ) → parent_fault k v i ≡ Fine → Hung v i
-  fine_hung zero h = record { root = λ e. eqb-true _ _ (both _ Fine _ h).0; later = λ l. absurd (omega arith) }
-  fine_hung (suc i) h = record { root = λ e. absurd (omega arith); later = λ l. ltb-true _ _ (both _ Fine _ (rw (eqb-suc-zero i) at h)).0 }
+  fine_hung : (i : ℕ) → parent_fault k v i ≡ Ok tt → Hung v i
+  fine_hung zero h = record { root = λ e. eqb-true _ _ (both _ (Ok tt) _ h).0; later = λ l. absurd (omega arith) }
+  fine_hung (suc i) h = record { root = λ e. absurd (omega arith); later = λ l. ltb-true _ _ (both _ (Ok tt) _ (rw (eqb-suc-zero i) at h)).0 }
 
-  hung_fine : (i : ℕ) → Hung v i → parent_fault k v i ≡ Fine
+  hung_fine : (i : ℕ) → Hung v i → parent_fault k v i ≡ Ok tt
   hung_fine zero g = rw (eq-eqb _ _ (g.root refl)) refl
   hung_fine (suc i) g = rw (eqb-suc-zero i, lt-ltb _ _ (g.later (omega arith))) refl
 
-  fine_kept : (i : ℕ) → node_fault k v n i ≡ Fine → Kept n v i
+  fine_kept : (i : ℕ) → node_fault k v n i ≡ Ok tt → Kept n v i
   fine_kept i h =
       let a = past (not (right_species n (v.species i) (length (children v i)))) _ _ h in
       let b = past (ltb (earlier v (v.species i) (length (children v i)) i) i) _ _ a.1 in
@@ -186,7 +178,7 @@ module _ (k n : ℕ) (v : Nodes) where
             once = λ l. absurd (z l);
           }
 
-  kept_fine : (i : ℕ) → Kept n v i → node_fault k v n i ≡ Fine
+  kept_fine : (i : ℕ) → Kept n v i → node_fault k v n i ≡ Ok tt
   kept_fine i g = test (eqb (length (children v i)) 0) leaf inner
     where
       fresh : length (children v i) ≡ 0 → i ≤ seen v (v.species i) i 0
@@ -197,19 +189,19 @@ module _ (k n : ℕ) (v : Nodes) where
           absurd (g.once z j lt p.1 p.0))
           (λ l. ltb-false (seen v (v.species i) i 0) i (not-true (ltb (seen v (v.species i) i 0) i) l))
 
-      leaf : So (eqb (length (children v i)) 0) → node_fault k v n i ≡ Fine
+      leaf : So (eqb (length (children v i)) 0) → node_fault k v n i ≡ Ok tt
       leaf e =
           let z = eqb-true (length (children v i)) 0 e in
           rw (e, lt-ltb _ _ (g.outer z), le-ltb _ _ (fresh z), z) refl
 
-      inner : So (not (eqb (length (children v i)) 0)) → node_fault k v n i ≡ Fine
+      inner : So (not (eqb (length (children v i)) 0)) → node_fault k v n i ≡ Ok tt
       inner e =
           let z = ne_e (length (children v i)) 0 e in
           let l : 0 < length (children v i) = omega (arith, z) in
           let q : length (children v i) ≡ 1 → ⊥ = λ w. omega (arith, g.two l) in
           rw (not-true (eqb (length (children v i)) 0) e, eq-eqb _ _ (g.inner l), le-ltb i i (omega arith), ne_eqb _ _ q) refl
 
-  fine_good : fault k v n ≡ Fine → Good n v
+  fine_good : fault k v n ≡ Ok tt → Good n v
   unfolding fault
   fine_good h =
       let p = or_fine (first_break (parent_fault k v) v.count 0) (first_break (node_fault k v n) v.count 0) h in
@@ -224,7 +216,7 @@ module _ (k n : ℕ) (v : Nodes) where
         once = λ i j l lt p q e. (kept j lt).once q i l p e;
       }
 
-  good_fine : Good n v → fault k v n ≡ Fine
+  good_fine : Good n v → fault k v n ≡ Ok tt
   unfolding fault
   good_fine g =
       rw (fine_first (parent_fault k v) v.count 0 (λ i l lt. hung_fine i (record { root = λ e. g.root (omega arith); later = λ l. g.later i l (omega arith) })))
@@ -236,5 +228,5 @@ module _ (k n : ℕ) (v : Nodes) where
       })))
 
 -- a fault is answered exactly when the nodes are not good
-pub no_fault : (k n : ℕ) (v : Nodes) → (fault k v n ≡ Fine) ↔ Good n v
+pub no_fault : (k n : ℕ) (v : Nodes) → (fault k v n ≡ Ok tt) ↔ Good n v
 no_fault k n v = (fine_good k n v, good_fine k n v)

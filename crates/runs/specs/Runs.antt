@@ -4,12 +4,12 @@ use Rattle.std.specs.Prelude.{List, [], ◌∷◌, ◌≡◌, ℕ}
 use Rattle.trees.specs.Build.{tree}
 use Rattle.trees.specs.Trees.{Tree, cons, leaf, nil, node}
 use Rattle.answers.specs.Looks.{first_refusal}
-use Rattle.answers.specs.declared.Look.{Look}
-use Rattle.answers.specs.declared.Look.TheVariants.{Pass, Refuse}
+use Rattle.answers.specs.Looks.{Look}
 use Rattle.refusals.specs.declared.Refusal.TheVariants.{NoTree, Unforced}
 use Rattle.sets.specs.Sets.{upto}
 use Rattle.building.specs.Builds.{look_outcome, outcome}
 use Rattle.checking.specs.Checks.{triples_looks}
+use Rattle.std.specs.Prelude.{Ok, Err}
 
 pub data Run : Type 0 where
   -- the build of a table of n species gives this tree
@@ -22,12 +22,12 @@ pub data Run : Type 0 where
 abbrev pub Holds : List Run → Type 0
 Holds [] = Unit {0}
 Holds (builds n t T ∷ l) = (outcome n (upto n) t ≡ tree T) × Holds l
-Holds (stops n t u ∷ l) = (look_outcome (outcome n (upto n) t) ≡ Refuse (NoTree u)) × Holds l
+Holds (stops n t u ∷ l) = (look_outcome (outcome n (upto n) t) ≡ Err (NoTree u)) × Holds l
 Holds (checks n t T k ∷ l) = (first_refusal (triples_looks n t T) ≡ k) × Holds l
 
 -- 12 at index i
 abbrev pub unforced : ℕ → Look
-unforced i = Refuse (Unforced i)
+unforced i = Err (Unforced i)
 
 -- ---- trees, as (t,u) and (t,u,v)
 
@@ -69,9 +69,9 @@ papers =
     builds 5 apart_table apart
     ∷ checks 5 apart_table apart (unforced 0)
     ∷ builds 4 (0 ∷ 1 ∷ 1 ∷ 0 ∷ []) (two fan3 (leaf 3))
-    ∷ checks 4 (0 ∷ 1 ∷ 1 ∷ 0 ∷ []) (two fan3 (leaf 3)) Pass
+    ∷ checks 4 (0 ∷ 1 ∷ 1 ∷ 0 ∷ []) (two fan3 (leaf 3)) (Ok tt)
     ∷ stops 4 (1 ∷ 3 ∷ 3 ∷ 3 ∷ []) 15
-    ∷ checks 4 (1 ∷ 3 ∷ 3 ∷ 3 ∷ []) cherry Pass
+    ∷ checks 4 (1 ∷ 3 ∷ 3 ∷ 3 ∷ []) cherry (Ok tt)
     ∷ stops 4 (5 ∷ 1 ∷ 0 ∷ 0 ∷ []) 7
     ∷ checks 4 (5 ∷ 1 ∷ 0 ∷ 0 ∷ []) (two fan3 (leaf 3)) (unforced 2)
     ∷ []

@@ -10,17 +10,16 @@ use Rattle.bodies.specs.Draws.{body_of, node_count}
 use Rattle.bodies.specs.Nodes.{body_length, longest, most_nodes}
 use Rattle.answers.specs.Inputs.{Body, Count}
 use Rattle.answers.specs.Looks.{after, answered, first_refusal}
-use Rattle.answers.specs.declared.Look.{Look}
-use Rattle.answers.specs.declared.Look.TheVariants.{Pass, Refuse}
+use Rattle.answers.specs.Looks.{Look}
 use Rattle.easing.specs.Eases.{Lent, eased, laid_out, lent, numbers, tally}
 use Rattle.loosening.specs.Loosens.{loosen_answer, loosen_looks}
-use Rattle.loosening.specs.declared.Answer.{Answer}
-use Rattle.loosening.specs.declared.Answer.TheVariants.{Done, Refused}
 use Rattle.easing.specs.declared.Tally.{Tally}
 use Rattle.sending.proofs.Final.{final_body_lem, final_dropped, final_long, final_nodes, final_preorder}
 use Rattle.sending.proofs.Pulled.{numbers-length}
 use Rattle.sending.specs.Pulls.{InPreorder}
 use Rattle.sending.specs.Sends.{final_body, dropped_sets, left_in', left_text, lines_text, sent_text}
+use Rattle.std.specs.Prelude.{Ok, Err, Result}
+use Rattle.refusals.specs.declared.Refusal.{Refusal}
 
 -- o has a tree and its dropped sets
 pub record LeftGood (n : ℕ) (o : Lent) (w : Tally) : Type 0 where
@@ -30,20 +29,20 @@ pub record LeftGood (n : ℕ) (o : Lent) (w : Tally) : Type 0 where
   pub preorder : InPreorder (final_body o w)
 
 -- a look that is answered `Done` passes
-done_passes : (k : Look) (v w : Tally) → answered Done Refused k v ≡ Done w → (k ≡ Pass) × (w ≡ v)
-done_passes Pass v w e = (refl, cc)
-done_passes (Refuse x) v w e = let z : ◌≡◌ {A = ℕ} 0 1 = cc in absurd (omega arith)
+done_passes : (k : Look) (v w : Tally) → answered Ok Err k v ≡ Ok w → (k ≡ Ok tt) × (w ≡ v)
+done_passes (Ok _) v w e = (refl, cc)
+done_passes (Err x) v w e = let z : ◌≡◌ {A = ℕ} 0 1 = cc in absurd (omega arith)
 
 -- loosening answered a, and left o
-module _ (n : ℕ) (t b : List ℕ) (a : Answer) (p : a ≡ loosen_answer n t b longest 62) (o : Lent) (q : o ≡ left_in' n t b) where
+module _ (n : ℕ) (t b : List ℕ) (a : Result Tally Refusal) (p : a ≡ loosen_answer n t b longest 62) (o : Lent) (q : o ≡ left_in' n t b) where
   sent_is : left_text o a ≡ sent_text n t b
   sent_is = ap₂ left_text q p
 
-  module _ (w : Tally) (e : a ≡ Done w) where
+  module _ (w : Tally) (e : a ≡ Ok w) where
     pub done_told : (k : ℕ) → k ≡ body_length w.nodes → lines_text (take k o.room) (dropped_sets o w) ≡ sent_text n t b
     done_told k h = rw h (ap (left_text o) (sym e) ∙ sent_is)
 
-    passes : (first_refusal (loosen_looks n t b longest 62) ≡ Pass) × (w ≡ tally (eased n t b))
+    passes : (first_refusal (loosen_looks n t b longest 62) ≡ Ok tt) × (w ≡ tally (eased n t b))
     passes = done_passes (first_refusal (loosen_looks n t b longest 62)) (tally (eased n t b)) w (sym p ∙ e)
 
     -- the final tree's body, and the dropped sets, at the front of zeros

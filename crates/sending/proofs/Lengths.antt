@@ -11,8 +11,6 @@ use Rattle.bodies.specs.Draws.{tree_of}
 use Rattle.bodies.specs.Nodes.{longest}
 use Rattle.answers.specs.Inputs.{Body, Count}
 use Rattle.loosening.specs.Loosens.{loosen_answer}
-use Rattle.loosening.specs.declared.Answer.{Answer}
-use Rattle.loosening.specs.declared.Answer.TheVariants.{Done, Refused}
 use Rattle.species_text.proofs.Lengths.{species_few, tree_few}
 use Rattle.species_text.specs.Lines.{species_line, tree_line}
 use Rattle.verdict_text.proofs.Told.{verdict_few}
@@ -23,6 +21,9 @@ use Rattle.sending.proofs.Pulled.{numbers-length}
 use Rattle.sending.specs.Pulls.{InPreorder, behind_first, groups_text, pulled, pulled_text, species_lines}
 use Rattle.sending.specs.Sends.{dropped_sets, final_body, left_in', left_text, send_text, sent_text}
 use Rattle.sending.specs.Words.{dropped_word, sent_words, together_words}
+use Rattle.std.specs.Prelude.{Ok, Err, Result}
+use Rattle.refusals.specs.declared.Refusal.{Refusal}
+use Rattle.easing.specs.declared.Tally.{Tally}
 
 lines_few : (w l : List ℕ) → length (species_lines w l) ≤ (length w + 193) * length l
 lines_few w [] = omega arith
@@ -41,10 +42,10 @@ text_few [] h = omega arith
 text_few (s ∷ l) h = omega (arith, lines_few together_words (s ∷ l), h)
 
 module _ {n : ℕ} {b : List ℕ} (c : Count n) (g : Body n b) (t : List ℕ) where
-  left_few : (a : Answer) → a ≡ loosen_answer n t b longest 62 → length (left_text (left_in' n t b) a) ≤ 25618
-  left_few (Done w) e =
+  left_few : (a : Result Tally Refusal) → a ≡ loosen_answer n t b longest 62 → length (left_text (left_in' n t b) a) ≤ 25618
+  left_few (Ok w) e =
       let o = left_in' n t b in
-      let k = left_good n t b (Done w) e o refl w refl c g in
+      let k = left_good n t b (Ok w) e o refl w refl c g in
       let d = dropped_sets o w in
       let few : length d ≤ 62 = simp length-take (omega (arith, k.few_dropped)) in
       omega (
@@ -56,7 +57,7 @@ module _ {n : ℕ} {b : List ℕ} (c : Count n) (g : Body n b) (t : List ℕ) wh
         few,
         text_few (pulled (final_body o w)) (pulled_few (final_body o w) k.preorder),
       )
-  left_few (Refused x) e = omega arith
+  left_few (Err x) e = omega arith
 
   pub send_few : length (send_text n t b) ≤ 26000
   unfolding send_text

@@ -14,12 +14,11 @@ use Rattle.bodies.specs.Draws.{node_count, subtree, tree_of}
 use Rattle.bodies.specs.Nodes.{Good, most_nodes, nodes, none}
 use Rattle.groups.specs.Groups.{set_of}
 use Rattle.easing.specs.Eases.{numbers}
-use Rattle.writing.proofs.Writing.{writes_as, writes_both, writes_nothing}
-use Rattle.writing.specs.Texts.{ended}
-use Rattle.writing.specs.Writes.{Writes}
+use Rattle.writing.proofs.Writing.{writes, wrote_both, wrote_nothing}
+use Rattle.writing.specs.Texts.{ended, wrote}
 use Rattle.species_text.specs.Lines.{species_line}
 use Rattle.sending.proofs.InnerNodes.{behind_root, inner_end, inner_leaf, inner_more, inner_from}
-use Rattle.sending.proofs.Lines.{lines_next}
+use Rattle.sending.proofs.Lines.{lines_more}
 use Rattle.sending.specs.Pulls.{InPreorder, groups_text, pulled, pulled_text, species_lines}
 use Rattle.sending.specs.Words.{nothing_words, together_words}
 
@@ -60,22 +59,22 @@ any_last : (l : List ℕ) (s : ℕ) → true ≡ any_set (l ++ (s ∷ []))
 any_last [] s = refl
 any_last (x ∷ l) s = refl
 
--- o was the text, and is o' now, with the lines of the groups of the nodes before i from `at` on; `some` says whether there is one
-pub record Todo (b : List ℕ) (at : ℕ) (o o' : List ℕ) (next : ℕ) (some : Bool) (i : ℕ) : Type 0 where
+-- o was the text, and is o' now, with the lines of the groups of the nodes before i behind it, in a room of k bytes; `some` says whether there is one
+pub record Todo (b : List ℕ) (k : ℕ) (o o' : List ℕ) (some : Bool) (i : ℕ) : Type 0 where
   pub done : List ℕ
-  pub wrote : Writes o at (species_lines together_words done) o' next
+  pub text : o' ≡ wrote k o (species_lines together_words done)
   pub whole : done ++ numbers (inner_from (nodes b) ((nodes b).count - i) i) ≡ pulled b
   pub told : some ≡ any_set done
 
-pub todo_start : (b : List ℕ) → InPreorder b → (at : ℕ) (o : List ℕ) → Todo b at o o at false 1
-todo_start b p at o = record { done = []; wrote = writes_nothing o at; whole = pulled_is b p; told = refl }
+pub todo_start : (b : List ℕ) → InPreorder b → (k : ℕ) (o : List ℕ) → Todo b k o o false 1
+todo_start b p k o = record { done = []; text = sym (wrote_nothing k o); whole = pulled_is b p; told = refl }
 
-module _ {b : List ℕ} {at : ℕ} {o o' : List ℕ} {next : ℕ} {some : Bool} {i : ℕ} (t : Todo b at o o' next some i) (h : i < (nodes b).count) where
+module _ {b : List ℕ} {k : ℕ} {o o' : List ℕ} {some : Bool} {i : ℕ} (t : Todo b k o o' some i) (h : i < (nodes b).count) where
   -- a leaf has no line
-  pub todo_leaf : (nodes b).species i ≢ none → Todo b at o o' next some (i + 1)
+  pub todo_leaf : (nodes b).species i ≢ none → Todo b k o o' some (i + 1)
   todo_leaf e = record {
     done = t.done;
-    wrote = t.wrote;
+    text = t.text;
     whole = ap (λ (l : List Species). t.done ++ numbers l) (sym (inner_leaf (nodes b) (nodes b).count i h e)) ∙ t.whole;
     told = t.told;
   }
@@ -91,10 +90,10 @@ module _ {b : List ℕ} {at : ℕ} {o o' : List ℕ} {next : ℕ} {some : Bool} 
     parted : t.done ++ (s ∷ rest) ≡ pulled b
     parted = ap (λ (l : List Species). t.done ++ numbers l) (sym (inner_more (nodes b) (nodes b).count i h e)) ∙ t.whole
 
-    pub todo_next : (x : ℕ) → x ≡ s → (o'' : List ℕ) (r : ℕ) → Writes o' next (species_line together_words x) o'' r → Todo b at o o'' r true (i + 1)
-    todo_next x q o'' r w = record {
+    pub todo_next : (x : ℕ) → x ≡ s → (o'' : List ℕ) → o'' ≡ wrote k o' (species_line together_words x) → Todo b k o o'' true (i + 1)
+    todo_next x q o'' w = record {
       done = t.done ++ (x ∷ []);
-      wrote = lines_next together_words t.done x t.wrote w;
+      text = simp (w, t.text, lines_more together_words t.done x, writes);
       whole = append_assoc t.done (x ∷ []) rest ∙ ap (λ (y : ℕ). t.done ++ (y ∷ rest)) q ∙ parted;
       told = any_last t.done x;
     }
@@ -109,18 +108,20 @@ no_lines : (l : List ℕ) → false ≡ any_set l → species_lines together_wor
 no_lines [] e = refl
 no_lines (x ∷ l) e = absurd (false≢true e)
 
-module _ {b : List ℕ} {at : ℕ} {o o' : List ℕ} {next : ℕ} {some : Bool} {i : ℕ} (t : Todo b at o o' next some i) (h : (nodes b).count ≤ i) where
+module _ {b : List ℕ} {k : ℕ} {o o' : List ℕ} {some : Bool} {i : ℕ} (t : Todo b k o o' some i) (h : (nodes b).count ≤ i) where
   all_done : t.done ≡ pulled b
   all_done = sym (append-nil t.done) ∙ ap (λ (l : List Species). t.done ++ numbers l) (sym (inner_end (nodes b) (nodes b).count i h)) ∙ t.whole
 
-  all_written : Writes o at (species_lines together_words (pulled b)) o' next
-  all_written = writes_as (ap (species_lines together_words) all_done) t.wrote
+  all_written : o' ≡ wrote k o (species_lines together_words (pulled b))
+  all_written = t.text ∙ ap (λ (l : List ℕ). wrote k o (species_lines together_words l)) all_done
 
   all_told : some ≡ any_set (pulled b)
   all_told = t.told ∙ ap any_set all_done
 
-  pub todo_end : some ≡ true → Writes o at (groups_text b) o' next
-  todo_end e = writes_as (some_lines (pulled b) (sym e ∙ all_told)) all_written
+  pub todo_end : some ≡ true → o' ≡ wrote k o (groups_text b)
+  todo_end e = all_written ∙ ap (wrote k o) (some_lines (pulled b) (sym e ∙ all_told))
 
-  pub todo_none : some ≡ false → (o'' : List ℕ) (r : ℕ) → Writes o' next (ended nothing_words) o'' r → Writes o at (groups_text b) o'' r
-  todo_none e o'' r w = writes_as (no_lines (pulled b) (sym e ∙ all_told)) (writes_both all_written w)
+  pub todo_none : some ≡ false → (o'' : List ℕ) → o'' ≡ wrote k o' (ended nothing_words) → o'' ≡ wrote k o (groups_text b)
+  todo_none e o'' w =
+      w ∙ ap (λ (z : List ℕ). wrote k z (ended nothing_words)) all_written
+      ∙ wrote_both k o (species_lines together_words (pulled b)) (ended nothing_words) ∙ ap (wrote k o) (no_lines (pulled b) (sym e ∙ all_told))

@@ -4,13 +4,13 @@ use Rattle.std.specs.Prelude.{List, [], ◌++◌, ℕ, replicate, take}
 use Rattle.bodies.specs.Nodes.{body_length, longest}
 use Rattle.easing.specs.Eases.{Lent, lent}
 use Rattle.loosening.specs.Loosens.{loosen_after, loosen_answer}
-use Rattle.loosening.specs.declared.Answer.{Answer}
-use Rattle.loosening.specs.declared.Answer.TheVariants.{Done, Refused}
 use Rattle.easing.specs.declared.Tally.{Tally}
 use Rattle.species_text.specs.Lines.{tree_line}
 use Rattle.verdict_text.specs.Verdict.{verdict_text}
 use Rattle.sending.specs.Pulls.{groups_text, species_lines}
 use Rattle.sending.specs.Words.{dropped_word, sent_words}
+use Rattle.std.specs.Prelude.{Ok, Err, Result}
+use Rattle.refusals.specs.declared.Refusal.{Refusal}
 
 -- the tree of the body b may be sent, and the sets d were dropped; then "for each group of that tree .."
 abbrev pub lines_text : List ℕ → List ℕ → List ℕ
@@ -23,9 +23,9 @@ final_body o w = take (body_length w.nodes) o.room
 abbrev pub dropped_sets : Lent → Tally → List ℕ
 dropped_sets o w = take w.dropped o.list
 
-abbrev pub left_text : Lent → Answer → List ℕ
-left_text o (Done w) = lines_text (final_body o w) (dropped_sets o w)
-left_text o (Refused x) = []
+abbrev pub left_text : Lent → Result Tally Refusal → List ℕ
+left_text o (Ok w) = lines_text (final_body o w) (dropped_sets o w)
+left_text o (Err x) = []
 
 -- a room of zeros that holds the longest body, and a list of 62 zeros: what loosening leaves in them
 abbrev pub left_in' : ℕ → List ℕ → List ℕ → Lent

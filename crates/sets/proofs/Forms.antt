@@ -1,14 +1,10 @@
 -- What the code's own forms come to. Assumes nothing.
-use Rattle.std.proofs.Common.{◌≡◌, ℕ, ◌+◌, ◌-◌, ◌*◌, ◌/◌, ◌%◌, ◌^◌, ◌<◌, min, sym, ap, ◌∙◌, one-mul, arith, lit<, shl_exact}
+use Rattle.std.proofs.Common.{◌≡◌, ℕ, ◌+◌, ◌-◌, ◌/◌, ◌%◌, ◌^◌, ◌<◌, min, sym, ap, ◌∙◌, arith}
 use native.Mathlib.Decide.{ℕ_discrete, dec_lt}
 use lib.Bits.{and_mask}
-use Rattle.sets.specs.Sets.{digit, meet, minus, single, rest}
+use Rattle.sets.specs.Sets.{digit, meet, minus, rest}
 use Rattle.sets.proofs.Digits.{digit_empty, digit-meet, digit-minus, digit_lt, digit-high, digit_not, ext}
 use Rattle.sets.proofs.Least.{pop}
-
--- `1 << i`
-pub shl_one : (i : ℕ) → i < 64 → (1 * 2 ^ i) % 2 ^ 64 ≡ single i
-shl_one i h = shl_exact 1 i 64 (lit< tt) (omega arith) ∙ one-mul (2 ^ i)
 
 -- `s & !t`
 pub and-not : (s t : ℕ) → s < 2 ^ 64 → t < 2 ^ 64 → meet s ((2 ^ 64 - 1) - t) ≡ minus s t

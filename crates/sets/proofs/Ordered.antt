@@ -6,7 +6,8 @@ use mathlib.Core.List.Memᴰ
 use mathlib.Core.List.{Memᴰ}
 use native.Mathlib.Decide.{ℕ_discrete}
 use Rattle.sets.specs.Species.{Species, put, from, members, Ascending}
-use Rattle.sets.specs.Sets.{has, lowest, rest}
+use Rattle.sets.specs.Sets.{has, lowest, rest, Lowest, Rest}
+use Rattle.sets.specs.Walks.{in_order}
 use Rattle.sets.proofs.Digits.{minus_same, minus_other}
 use Rattle.sets.proofs.Tests.{true_has, false_has, has_empty}
 use Rattle.sets.proofs.Least.{lowest_in, lowest-lt, lowest-least}
@@ -94,3 +95,11 @@ members_walk s h n =
 
 pub lowest-members : (s : ℕ) → s < 2 ^ 64 → s ≢ 0 → get_or (members 64 (has s)) 0 0 ≡ lowest s
 lowest-members s h n = rw (members_walk s h n)
+
+-- ---- a walk's turns, as of the list
+
+pub in_order-none : {s : ℕ} → s ≡ 0 → in_order s ≡ []
+in_order-none e = ap in_order e ∙ members_empty 64
+
+pub in_order-first : {s i t : ℕ} → s < 2 ^ 64 → s ≢ 0 → Lowest s i → Rest s t → in_order s ≡ i ∷ in_order t
+in_order-first {s} {i} {t} h n lo re = rw (lo.is, re.is) (members_walk s h n)

@@ -2,7 +2,9 @@
 #![tactic(auto)]
 
 ghost use Rattle.std.specs.Prelude.{◌≡◌, ◌<◌, ◌≤◌, true, ◌↔◌};
+ghost use Rattle.std.specs.Iterator.{at_most};
 ghost use Rattle.sets.specs.Sets.{has, Subset, union, meet, minus, single, upto, size, Lowest, Rest};
+ghost use Rattle.sets.specs.Walks.{Walks};
 
 // Is species i in s?
 pub fn has(s: u64, i: usize) -> bool
@@ -16,21 +18,51 @@ pub fn has(s: u64, i: usize) -> bool
 pub fn size(s: u64) -> u32
     ensures { result ≡ size s }
 {
-    u64::count_ones(s)
+    s.count_ones()
 }
 
 // The lowest species of s; 64 where s is empty.
 pub fn lowest(s: u64) -> usize
     ensures { Lowest s result }
 {
-    u64::trailing_zeros(s) as usize
+    s.trailing_zeros() as usize
 }
 
-// s without its lowest species: with `lowest`, a walk from the lowest species up.
+// s without its lowest species.
 pub fn rest(s: u64) -> u64
     ensures { Rest s result }
 {
-    s & std::num::wrapping_sub_u64(s, 1)
+    s & s.wrapping_sub(1)
+}
+
+// A walk over a set, from the lowest species up: what it has left.
+#[derive(Clone, Copy)]
+pub struct Walk {
+    pub left: u64,
+}
+
+impl Iterator for Walk {
+    type Item = usize;
+
+    ghost next_gives = { λ w r v. Walks w.left r v.left };
+
+    ghost remaining = { λ w. at_most (size w.left) };
+
+    fn next(&mut self) -> Option<usize> {
+        if self.left == 0 {
+            return None;
+        }
+        let i = lowest(self.left);
+        self.left = rest(self.left);
+        Some(i)
+    }
+}
+
+// The species of s, from the lowest up.
+pub fn species(s: u64) -> Walk
+    ensures { result.left ≡ s }
+{
+    Walk { left: s }
 }
 
 pub fn union(s: u64, t: u64) -> u64
@@ -78,9 +110,5 @@ pub fn all(n: usize) -> u64
     requires { n ≤ 64 }
     ensures { result ≡ upto n }
 {
-    if n == 64 {
-        0xffff_ffff_ffff_ffff
-    } else {
-        single(n) - 1
-    }
+    if n == 64 { u64::MAX } else { single(n) - 1 }
 }

@@ -6,9 +6,8 @@ use Rattle.shelf_text.specs.Shelf.{shelf_text}
 abbrev pub looked : ℕ
 looked = 4100
 
--- reading was lent the bytes b, and n of them came; the first e bytes of the text x are what `shelf` prints of these n
-pub record ShownText (b : List ℕ) (n : ℕ) (x : List ℕ) (e : ℕ) : Type 0 where
+-- reading was lent the bytes b, and n of them came; the text x is what `shelf` prints of these n
+pub record ShownText (b : List ℕ) (n : ℕ) (x : List ℕ) : Type 0 where
   pub lent : length b ≡ looked
   pub came : n ≤ length b
-  pub inside : e ≤ length x
-  pub text : take e x ≡ shelf_text (take n b)
+  pub text : x ≡ shelf_text (take n b)

@@ -4,11 +4,11 @@
 ghost use Rattle.std.specs.Prelude.{◌≡◌, length};
 ghost use Rattle.shelf_run.specs.Runs.{ShownText};
 
-// Prints the first `end` bytes of the text. Who calls this has to show what they are: what `shelf` prints of the n bytes that came.
-fn print(bytes: &[u8], n: usize, text: &[u8], end: usize)
-    requires { ShownText bytes.now n text.now end }
+// Prints the text. Who calls this has to show what it is: what `shelf` prints of the n bytes that came.
+fn print(bytes: &[u8], n: usize, text: &[u8])
+    requires { ShownText bytes.now n text.now }
 {
-    io::write_all(1, &text[..end]);
+    io::write_all(1, text);
 }
 
 // Reads a collection on standard input, builds the tree of its table, checks it, and prints what came of it. The table is lent for work.
@@ -17,7 +17,7 @@ pub fn run(table: &mut [u8; 41664])
 {
     let mut bytes = [0u8; collections::LONGEST + 1];
     let n = io::read_full(0, &mut bytes);
-    let mut text = [0u8; 8192];
-    let end = shelf_text::shelf(&bytes[..n], table, &mut text);
-    print(&bytes, n, &text, end);
+    let mut text = writing::Text::new();
+    shelf_text::shelf(&bytes[..n], table, &mut text);
+    print(&bytes, n, text.as_slice());
 }

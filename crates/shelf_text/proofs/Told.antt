@@ -1,39 +1,34 @@
 -- What is told of a build and of a collection, answer by answer. Assumes nothing.
 use mathlib.Core.List.{List, [], ◌∷◌, ◌++◌}
-use mathlib.Core.Logic.{◌≢◌}
 use mathlib.Core.Path.{◌∙◌, ◌≡◌, ap, refl, sym}
-use Prim.Native.Nat.{ℕ, zero, suc, ◌-◌, ◌<◌, ◌≤◌}
+use Prim.Native.Nat.{ℕ, ◌-◌, ◌<◌, ◌≤◌}
 use native.Mathlib.Omega.{arith}
-use borrow.Author.Tests.{eq-eqb, ne_eqb}
-use denote.Enum.Declared.{tag_of}
-use types.Run.{OneOf, miss}
+use borrow.Author.Tests.{eq-eqb}
 use lib.ListN.{drop, get_or, length, length-append, length-drop, length-replicate, length-take, replicate, take}
-use lib.Seq.{get_or-take, take_all}
+use lib.Seq.{take_all}
 use Rattle.triples.specs.Index.{C}
 use Rattle.bodies.specs.Nodes.{body_length, longest}
 use Rattle.answers.proofs.Answered.{first_on}
 use Rattle.refusals.specs.Told.{unnamed}
 use Rattle.answers.specs.Looks.{look_table}
-use Rattle.collections.specs.contracts.Answer.{the_type as reading}
 use Rattle.collections.proofs.Whole.{read_done, read_pass}
 use Rattle.collections.specs.Collection.{Collection}
 use Rattle.collections.specs.Layout.{species}
 use Rattle.collections.specs.Reads.{read_answer, read_looks}
-use Rattle.collections.specs.declared.Answer as Reading
 use Rattle.collections.specs.declared.Counts.{Counts}
 use Rattle.listing.specs.Lists.{list_after, list_of}
 use Rattle.building.proofs.Fits.{done_fits}
 use Rattle.building.specs.Builds.{answer_told, build_after, build_answer}
-use Rattle.building.specs.declared.Answer as Building
 use Rattle.answers.specs.declared.Written.{Written}
 use Rattle.checking.specs.Checks.{check_answer, check_told}
 use Rattle.writing.proofs.Digits.{decimal_few}
 use Rattle.writing.proofs.Spaced.{spaced_few}
-use Rattle.writing.proofs.Writing.{writes_whole}
-use Rattle.writing.specs.Texts.{decimal, ended, spaced}
-use Rattle.writing.specs.Writes.{Writes}
-use Rattle.shelf_text.specs.Shelf.{behind_text, body_text, build_word, build_numbers, check_word, read_word, read_numbers, read_text, shelf_text, shown_numbers, table_text, unread_numbers}
+use Rattle.writing.proofs.Writing.{wrote_alone, wrote_both}
+use Rattle.writing.specs.Texts.{decimal, ended, spaced, wrote}
+use Rattle.shelf_text.specs.Shelf.{behind_text, body_text, build_word, build_numbers, check_word, read_word, read_numbers, read_text, shelf_text, shown_numbers, table_text}
 use Rattle.shelf_text.specs.Texts.{line, numbers}
+use Rattle.std.specs.Prelude.{Ok, Err, Result}
+use Rattle.refusals.specs.declared.Refusal.{Refusal}
 
 -- ---- the bytes of a body
 
@@ -51,32 +46,14 @@ numbers_some (n ∷ b) x h e = rw (e, others (n ∷ b)) refl
 
 -- ---- the numbers of a line, of the number k and the first c of four values v
 
-pub unread_left : (k : ℕ) (vs : List ℕ) → k ≡ 4 → k ∷ 0 ∷ 0 ∷ [] ≡ unread_numbers k vs
-unread_left k vs h = rw (eq-eqb k 4 h) refl
-
-none-at : (v : List ℕ) (c i : ℕ) → c ≤ i → 0 ≡ get_or (take c v) i 0
-none-at v zero i h = refl
-none-at [] (suc c) i h = refl
-none-at (x ∷ v) (suc c) zero h = absurd (omega arith)
-none-at (x ∷ v) (suc c) (suc i) h = none-at v c i (omega arith)
-
-pub unread_none : (k : ℕ) (v : List ℕ) (c : ℕ) → k ≢ 4 → c ≡ 0 → k ∷ 0 ∷ 0 ∷ [] ≡ unread_numbers k (take c v)
-unread_none k v c h e = rw (ne_eqb k 4 h, ← none-at v c 0 (omega arith), ← none-at v c 1 (omega arith)) refl
-
-pub unread_one : (k : ℕ) (v : List ℕ) (c : ℕ) → k ≢ 4 → c ≡ 1 → k ∷ get_or v 0 0 ∷ 0 ∷ [] ≡ unread_numbers k (take c v)
-unread_one k v c h e = rw (ne_eqb k 4 h, get_or-take c v 0 0 (omega arith), ← none-at v c 1 (omega arith)) refl
-
-pub unread_both : (k : ℕ) (v : List ℕ) (c : ℕ) → k ≢ 4 → c ≢ 0 → c ≢ 1 → k ∷ get_or v 0 0 ∷ get_or v 1 0 ∷ [] ≡ unread_numbers k (take c v)
-unread_both k v c h e f = rw (ne_eqb k 4 h, get_or-take c v 0 0 (omega arith), get_or-take c v 1 0 (omega arith)) refl
-
 -- ---- the build's answer a, its numbers x, and the room o that it left
 
-module _ (n s : ℕ) (t o x : List ℕ) (a : Building.Answer) (p : x ≡ build_numbers a) (q : a ≡ (build_answer n s t longest).answer) (h : o ≡ build_after n s t (replicate longest 0)) where
+module _ (n s : ℕ) (t o x : List ℕ) (a : Result Written Refusal) (p : x ≡ build_numbers a) (q : a ≡ (build_answer n s t longest).answer) (h : o ≡ build_after n s t (replicate longest 0)) where
   built_told : line build_word x ++ behind_text n t o a ≡ table_text n s t
   built_told = rw (p, h, q) refl
 
-  pub done_told : (w : Written) (k : ℕ) → a ≡ Building.TheVariants.Done w → k ≡ body_length w.nodes → line build_word x ++ body_text n t (take k o) ≡ table_text n s t
-  done_told w k e h = rw h (ap (λ (z : Building.Answer). line build_word x ++ behind_text n t o z) (sym e) ∙ built_told)
+  pub done_told : (w : Written) (k : ℕ) → a ≡ Ok w → k ≡ body_length w.nodes → line build_word x ++ body_text n t (take k o) ≡ table_text n s t
+  done_told w k e h = rw h (ap (λ (z : Result Written Refusal). line build_word x ++ behind_text n t o z) (sym e) ∙ built_told)
 
 -- ---- how long the text is
 
@@ -91,14 +68,14 @@ body_few : (b : List ℕ) → length b ≤ longest → length (numbers b) ≤ 53
 body_few [] h = omega arith
 body_few (n ∷ b) h = simp length-append (omega (arith, decimal_few n, spaced_few b))
 
-behind_few : (n s : ℕ) (t o : List ℕ) (a : Building.Answer) → a ≡ (build_answer n s t longest).answer → length (behind_text n t o a) ≤ 5404
-behind_few n s t o (Building.TheVariants.Done w) e =
+behind_few : (n s : ℕ) (t o : List ℕ) (a : Result Written Refusal) → a ≡ (build_answer n s t longest).answer → length (behind_text n t o a) ≤ 5404
+behind_few n s t o (Ok w) e =
     let b = take (body_length w.nodes) o in
     let short : length b ≤ longest = simp length-take (omega (arith, done_fits n s t longest w (sym e))) in
     let c = check_told (check_answer n t b) in
     let ns = shown_numbers c.number (unnamed c.values) in
     omega (arith, length-append (numbers b) (line check_word ns), body_few b short, line_few check_word ns (omega arith) (shown_few c.number (unnamed c.values)))
-behind_few n s t o (Building.TheVariants.Refused x) e = omega arith
+behind_few n s t o (Err x) e = omega arith
 
 table_few : (n s : ℕ) (t : List ℕ) → length (table_text n s t) ≤ 8192
 table_few n s t =
@@ -108,9 +85,9 @@ table_few n s t =
     let o = build_after n s t (replicate longest 0) in
     omega (arith, length-append (line build_word ns) (behind_text n t o a), line_few build_word ns (omega arith) (shown_few c.number (unnamed c.values)), behind_few n s t o a refl)
 
-read_few : (b : List ℕ) (a : Reading.Answer) → length (read_text b a) ≤ 8192
-read_few b (Reading.TheVariants.Done c) = table_few c.n c.set (list_after b (replicate (C c.n 3) 0))
-read_few b (Reading.TheVariants.Refused x) = omega (arith, line_few read_word (read_numbers (Reading.TheVariants.Refused x)) (omega arith) (omega arith))
+read_few : (b : List ℕ) (a : Result Counts Refusal) → length (read_text b a) ≤ 8192
+read_few b (Ok c) = table_few c.n c.set (list_after b (replicate (C c.n 3) 0))
+read_few b (Err x) = omega (arith, line_few read_word (read_numbers (Err x)) (omega arith) (omega arith))
 
 shelf_few : (b : List ℕ) → length (shelf_text b) ≤ 8192
 unfolding shelf_text
@@ -123,16 +100,12 @@ module _ (b : List ℕ) where
   pub list_whole : Collection b → (t : List ℕ) → length t ≡ C (species b) 3 → list_after b t ≡ list_of b
   list_whole w t h = rw (first_on (read_looks b) (look_table (species b) (length t) ∷ []) ((read_pass b).1 w), eq-eqb (length t) (C (species b) 3) h) refl
 
-  refused_read : (a : Reading.Answer) → OneOf (1 ∷ []) (tag_of reading a) → line read_word (read_numbers a) ≡ read_text b a
-  refused_read (Reading.TheVariants.Done c) h = absurd (miss (1 ∷ []) 0 tt h)
-  refused_read (Reading.TheVariants.Refused x) h = refl
-
-  module _ (a : Reading.Answer) (p : a ≡ read_answer b) where
-    pub shelf_refused : (x : List ℕ) → x ≡ read_numbers a → OneOf (1 ∷ []) (tag_of reading a) → line read_word x ≡ shelf_text b
+  module _ (a : Result Counts Refusal) (p : a ≡ read_answer b) where
+    pub shelf_refused : (x : List ℕ) (y : Refusal) → a ≡ Err y → x ≡ read_numbers (Err y) → line read_word x ≡ shelf_text b
     unfolding shelf_text
-    shelf_refused x e k = ap (line read_word) e ∙ refused_read a k ∙ ap (read_text b) p
+    shelf_refused x y q e = ap (line read_word) e ∙ ap (read_text b) (sym q ∙ p)
 
-    pub shelf_listed : (c : Counts) → a ≡ Reading.TheVariants.Done c → table_text c.n c.set (list_of b) ≡ shelf_text b
+    pub shelf_listed : (c : Counts) → a ≡ Ok c → table_text c.n c.set (list_of b) ≡ shelf_text b
     unfolding shelf_text
     shelf_listed c q =
         let d = read_done b c (sym p ∙ q) in
@@ -140,6 +113,10 @@ module _ (b : List ℕ) where
         let e : length z ≡ C (species b) 3 = length-replicate (C c.n 3) 0 ∙ ap (λ (k : Counts). C k.n 3) d.0 in
         ap (table_text c.n c.set) (sym (list_whole d.1 z e)) ∙ ap (read_text b) (sym q ∙ p)
 
-  pub shelf_written : (o w o' : List ℕ) (r : ℕ) → length o ≡ 8192 → w ≡ shelf_text b → Writes o 0 w o' r
-      → (take r o' ≡ shelf_text b) × (r ≤ 8192) × (length o' ≡ 8192)
-  shelf_written o w o' r l e x = (writes_whole x (omega (arith, ap length e, shelf_few b, l)) ∙ e, omega (arith, x.inside (omega arith), l), x.kept ∙ l)
+  -- there is room for the whole text
+  pub shelf_written : (o w o' : List ℕ) → o ≡ [] → w ≡ shelf_text b → o' ≡ wrote 8192 o w → o' ≡ shelf_text b
+  shelf_written o w o' n e x = x ∙ ap (λ (z : List ℕ). wrote 8192 z w) n ∙ wrote_alone 8192 w (omega (arith, ap length e, shelf_few b)) ∙ e
+
+-- v, which is u, behind w
+pub two : (k : ℕ) (o o₁ o₂ w v u : List ℕ) → o₁ ≡ wrote k o w → o₂ ≡ wrote k o₁ v → v ≡ u → o₂ ≡ wrote k o (w ++ u)
+two k o o₁ o₂ w v u e f h = f ∙ ap (λ (z : List ℕ). wrote k z v) e ∙ wrote_both k o w v ∙ ap (λ (z : List ℕ). wrote k o (w ++ z)) h

@@ -5,14 +5,15 @@ use Rattle.std.specs.Prelude.{cond, List, [], ◌∷◌, ◌++◌, ℕ, eqb, get
 use Rattle.triples.specs.Index.{C}
 use Rattle.bodies.specs.Nodes.{body_length, longest}
 use Rattle.refusals.specs.Told.{unnamed}
-use Rattle.collections.specs.declared.Answer as Reading
 use Rattle.collections.specs.Reads.{read_answer, read_told}
 use Rattle.listing.specs.Lists.{list_after}
 use Rattle.building.specs.Builds.{answer_told, build_after, build_answer}
-use Rattle.building.specs.declared.Answer as Building
 use Rattle.checking.specs.Checks.{check_answer, check_told}
-use Rattle.checking.specs.declared.Answer as Checking
 use Rattle.shelf_text.specs.Texts.{line, numbers}
+use Rattle.std.specs.Prelude.{Ok, Err, Result}
+use Rattle.refusals.specs.declared.Refusal.{Refusal}
+use Rattle.collections.specs.declared.Counts.{Counts}
+use Rattle.answers.specs.declared.Written.{Written}
 
 -- the words read, build, check
 abbrev pub read_word : List ℕ
@@ -38,13 +39,13 @@ unread_numbers k vs = k ∷ tree_in k vs ∷ node_in k vs ∷ []
 abbrev pub shown_numbers : ℕ → List ℕ → List ℕ
 shown_numbers k vs = k ∷ take 1 vs
 
-abbrev pub read_numbers : Reading.Answer → List ℕ
+abbrev pub read_numbers : Result Counts Refusal → List ℕ
 read_numbers a = unread_numbers (read_told a).number (unnamed (read_told a).values)
 
-abbrev pub build_numbers : Building.Answer → List ℕ
+abbrev pub build_numbers : Result Written Refusal → List ℕ
 build_numbers a = shown_numbers (answer_told a).number (unnamed (answer_told a).values)
 
-abbrev pub check_numbers : Checking.Answer → List ℕ
+abbrev pub check_numbers : Result (Unit {0}) Refusal → List ℕ
 check_numbers a = shown_numbers (check_told a).number (unnamed (check_told a).values)
 
 -- the body b, and the line of its check against the table t of n species
@@ -52,11 +53,11 @@ abbrev pub body_text : ℕ → List ℕ → List ℕ → List ℕ
 body_text n t b = numbers b ++ line check_word (check_numbers (check_answer n t b))
 
 -- behind the build's line, where the build left the room o: the body is as many of its first bytes as its nodes take
-abbrev pub behind_text : ℕ → List ℕ → List ℕ → Building.Answer → List ℕ
-behind_text n t o (Building.TheVariants.Done w) = body_text n t (take (body_length w.nodes) o)
-behind_text n t o (Building.TheVariants.Refused x) = []
+abbrev pub behind_text : ℕ → List ℕ → List ℕ → Result Written Refusal → List ℕ
+behind_text n t o (Ok w) = body_text n t (take (body_length w.nodes) o)
+behind_text n t o (Err x) = []
 
-abbrev pub built_text : ℕ → List ℕ → List ℕ → Building.Answer → List ℕ
+abbrev pub built_text : ℕ → List ℕ → List ℕ → Result Written Refusal → List ℕ
 built_text n t o a = line build_word (build_numbers a) ++ behind_text n t o a
 
 -- from a table of n species, over the set s: a room of zeros that holds the longest body
@@ -64,9 +65,9 @@ abbrev pub table_text : ℕ → ℕ → List ℕ → List ℕ
 table_text n s t = built_text n t (build_after n s t (replicate longest 0)) (build_answer n s t longest).answer
 
 -- once the collection b was read; its table was zeros before. Request T-03: the build is over the set that occurs, "where no species occurs it prints only `build 15`"
-abbrev pub read_text : List ℕ → Reading.Answer → List ℕ
-read_text b (Reading.TheVariants.Done c) = table_text c.n c.set (list_after b (replicate (C c.n 3) 0))
-read_text b (Reading.TheVariants.Refused x) = line read_word (read_numbers (Reading.TheVariants.Refused x))
+abbrev pub read_text : List ℕ → Result Counts Refusal → List ℕ
+read_text b (Ok c) = table_text c.n c.set (list_after b (replicate (C c.n 3) 0))
+read_text b (Err x) = line read_word (read_numbers (Err x))
 
 unfoldable pub shelf_text : List ℕ → List ℕ
 shelf_text b = read_text b (read_answer b)

@@ -1,4 +1,3 @@
 -- The laws of lines of species and of trees.
-pub mod Walked
 pub mod Lengths
 pub mod Rendered

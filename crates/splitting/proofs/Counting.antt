@@ -1,6 +1,5 @@
 -- How many triples a walk over the species of a set looks at, from the lowest species up: by Pascal's rule. Assumes nothing.
 use mathlib.Core.Bool.{So}
-use mathlib.Core.Logic.{◌≢◌}
 use mathlib.Core.Path.{◌∙◌, ◌≡◌, ap, refl, subst, sym}
 use Prim.Native.Nat.{◌+◌, ◌<◌, ◌^◌, ◌≤◌, suc, zero, ℕ}
 use native.Mathlib.Omega.{arith}
@@ -11,7 +10,8 @@ use Rattle.sets.proofs.Facts.{minus_e, minus_empty, minus_i, single_e, single_i}
 use Rattle.sets.proofs.Least.{lowest-least}
 use Rattle.sets.proofs.Sizes.{size_empty, size-le, size-parts}
 use Rattle.sets.proofs.Tests.{has_true, has-upto, true_has}
-use Rattle.sets.specs.Sets.{Lowest, Rest, has, meet, minus, single, size, upto}
+use Rattle.sets.specs.Sets.{has, meet, minus, single, size, upto}
+use Rattle.sets.specs.Walks.{Turn}
 use Rattle.sets.specs.Species.{Species}
 use Rattle.trees.proofs.Combinations.{C-more, C-none, C-one, C-rule}
 use Rattle.trees.specs.Combinations.{C}
@@ -72,9 +72,9 @@ count_few {s} {k} h hs w =
     omega (arith, w.count, C-more k j 64 (omega (arith, size-parts s (upto w.start), size-le 64 s hs)), C-most k h)
 
 -- a, the lowest of those left, together with each k of the species of s below it
-module _ {s k left a left' looked : ℕ} (n : left ≢ 0) (lo : Lowest left a) (re : Rest left left') (w : Counted s (suc k) left looked) where
+module _ {s k left a left' looked : ℕ} (u : Turn left a left') (w : Counted s (suc k) left looked) where
   a_left : So (has left a)
-  a_left = true_has left a (lo.member n)
+  a_left = true_has left a u.member
 
   a_from : w.start ≤ a
   a_from = (from_e s w.start a (subst (λ (z : ℕ). So (has z a)) w.rest a_left)).1
@@ -88,7 +88,7 @@ module _ {s k left a left' looked : ℕ} (n : left ≢ 0) (lo : Lowest left a) (
   -- none that is left is lower
   a_least : (x : ℕ) → So (has left x) → a ≤ x
   a_least x h = by_order x a
-      (λ l. absurd (omega (arith, has_true left x h, lowest-least left x (subst (λ (z : ℕ). x < z) lo.is l))))
+      (λ l. absurd (omega (arith, has_true left x h, lowest-least left x (subst (λ (z : ℕ). x < z) u.lowest.is l))))
       (λ l. omega arith)
       (λ l. omega arith)
 
@@ -98,7 +98,7 @@ module _ {s k left a left' looked : ℕ} (n : left ≢ 0) (lo : Lowest left a) (
       (λ h. let r = from_e s a x h in in_left x r.0 r.1))
 
   rest_is : left' ≡ minus left (single a)
-  rest_is = re.is ∙ ap (λ (z : ℕ). minus left (single z)) (sym lo.is)
+  rest_is = u.rest.is ∙ ap (λ (z : ℕ). minus left (single z)) (sym u.lowest.is)
 
   next_is : left' ≡ minus s (upto (suc a))
   next_is = rest_is ∙ ext_has (minus left (single a)) (minus s (upto (suc a))) (λ x. bool_ext (has (minus left (single a)) x) (has (minus s (upto (suc a))) x)
@@ -115,7 +115,7 @@ module _ {s k left a left' looked : ℕ} (n : left ≢ 0) (lo : Lowest left a) (
   count_next looked' e =
       let j = size (meet s (upto a)) in
       let p : size (meet s (upto w.start)) ≡ j = omega (arith, size-parts s (upto w.start), size-parts s (upto a), ap size (sym w.rest ∙ left_is)) in
-      let q : size (meet s (upto (suc a))) ≡ suc j = omega (arith, size-parts s (upto (suc a)), size-parts s (upto a), ap size next_is, ap size left_is, re.fewer n) in
+      let q : size (meet s (upto (suc a))) ≡ suc j = omega (arith, size-parts s (upto (suc a)), size-parts s (upto a), ap size next_is, ap size left_is, u.rest.fewer u.some) in
       record {
         start = suc a;
         rest = next_is;

@@ -1,5 +1,5 @@
 -- Rows of links: one store, what several stores add, and a row as the number of its species. Assumes nothing.
-use mathlib.Core.Bool.{Bool, So, false, false≢true}
+use mathlib.Core.Bool.{Bool, So}
 use mathlib.Core.Logic.{◌↔◌, ◌⊎◌, inl, inr, ⊎_elim}
 use mathlib.Core.Path.{◌∙◌, ◌≡◌, refl, subst, sym}
 use Prim.Native.Nat.{◌<◌, ◌^◌, ℕ}
@@ -11,8 +11,7 @@ use Rattle.sets.proofs.Digits.{lt_of_has}
 use Rattle.sets.proofs.Facts.{single_e, single_i, union_case, union_l, union_r}
 use Rattle.sets.proofs.Tests.{has-below, number-has, true_has}
 use Rattle.sets.specs.Sets.{has, number, single, union}
-use Rattle.trees.specs.Triplets.{Triplets}
-use Rattle.splitting.specs.Rows.{Flagged, Pair, Rows, Ties, flag}
+use Rattle.splitting.specs.Rows.{Flagged, Pair, Rows, flag}
 
 -- ---- growing
 
@@ -23,15 +22,6 @@ module _ {R Q : ℕ → ℕ → Type 0} where
     flags = λ x y. (
       λ k. ⊎_elim (λ p. inl p) (λ p. inr ((f x y).0 p)) ((r.flags x y).0 k),
       λ k. (r.flags x y).1 (⊎_elim (λ p. inl p) (λ p. inr ((f x y).1 p)) k),
-    );
-  }
-
-  pub grown_both : {g h k : Rows} → Flagged R g h → Flagged Q h k → Flagged (λ x y. R x y ⊎ Q x y) g k
-  grown_both r q = record {
-    size = q.size;
-    flags = λ x y. (
-      λ l. ⊎_elim (λ p. ⊎_elim (λ o. inl o) (λ o. inr (inl o)) ((r.flags x y).0 p)) (λ p. inr (inr p)) ((q.flags x y).0 l),
-      λ l. (q.flags x y).1 (⊎_elim (λ p. inl ((r.flags x y).1 (inl p))) (λ p. ⊎_elim (λ o. inl ((r.flags x y).1 (inr o))) (λ o. inr o) p) l),
     );
   }
 
@@ -65,15 +55,6 @@ module _ (g : Rows) (a b v : ℕ) (s : length g ≡ 64) (ha : a < 64) (e : v ≡
 module _ (on : Bool) (a b : ℕ) (g : Rows) (s : length g ≡ 64) where
   pub join_on : a < 64 → So on → (v : ℕ) → v ≡ union (get_or g a 0) (single b) → Flagged (Pair on a b) g (set g a v)
   join_on ha h v e = grown_as (λ x y. (λ k. (h, k.0, k.1), λ k. (k.1, k.2))) (grown_put g a b v s ha e)
-
-  pub join_off : on ≡ false → Flagged (Pair on a b) g g
-  join_off e = grown_none s (λ x y p. false≢true (sym e ∙ p.0))
-
--- the three triplets on a triple
-pub join_three : (E : Triplets) (a b c : ℕ) (p q r : Bool) {g h k l : Rows} → p ≡ E a b c → q ≡ E a c b → r ≡ E b c a
-    → Flagged (Pair p a b) g h → Flagged (Pair q a c) h k → Flagged (Pair r b c) k l → Flagged (Ties E a b c) g l
-join_three E a b c p q r {g} {h} {k} {l} e₁ e₂ e₃ g₁ g₂ g₃ = grown_both (subst (λ (z : Bool). Flagged (Pair z a b) g h) e₁ g₁)
-    (grown_both (subst (λ (z : Bool). Flagged (Pair z a c) h k) e₂ g₂) (subst (λ (z : Bool). Flagged (Pair z b c) k l) e₃ g₃))
 
 -- ---- a row as a set
 

@@ -8,8 +8,13 @@ use Rattle.sets.proofs.Bools.{not_e, test}
 use Rattle.sets.proofs.Facts.{empty_e, minus_e, minus_i, single_e, single_i}
 use Rattle.sets.proofs.Tests.{true_has}
 use Rattle.sets.specs.Sets.{Lowest, Rest, has, minus, single}
+use Rattle.sets.specs.Walks.{Turn}
 use Rattle.splitting.proofs.Stores.{grown_none}
 use Rattle.splitting.specs.Rows.{Flagged, Rows, Some}
+
+-- a turn of a loop over what is left of a set
+pub turn : {left i left' : ℕ} → left ≢ 0 → Lowest left i → Rest left left' → Turn left i left'
+turn n l r = record { some = n; below = l.small n; member = l.member n; lowest = l; rest = r }
 
 -- g grew from g₀ by what Q tells of the species of s that are not left
 pub record Walked (s : ℕ) (Q : ℕ → ℕ → ℕ → Type 0) (g₀ g : Rows) (left : ℕ) : Type 0 where
@@ -23,10 +28,10 @@ module _ {s : ℕ} {Q : ℕ → ℕ → ℕ → Type 0} where
   pub walk_in : {g₀ g : Rows} {left k : ℕ} → left ≢ 0 → Lowest left k → Walked s Q g₀ g left → So (has s k)
   walk_in {g₀} {g} {left} {k} n lo w = w.inside k (true_has left k (lo.member n))
 
-  pub walk_next : {g₀ g g' : Rows} {left k left' : ℕ} → left ≢ 0 → Lowest left k → Rest left left' → Flagged (Q k) g g' → Walked s Q g₀ g left → Walked s Q g₀ g' left'
-  walk_next {g₀} {g} {g'} {left} {k} {left'} n lo re q w =
-      let m : So (has left k) = true_has left k (lo.member n) in
-      let e : left' ≡ minus left (single k) = re.is ∙ ap (λ (z : ℕ). minus left (single z)) (sym lo.is) in
+  pub walk_next : {g₀ g g' : Rows} {left k left' : ℕ} → Turn left k left' → Flagged (Q k) g g' → Walked s Q g₀ g left → Walked s Q g₀ g' left'
+  walk_next {g₀} {g} {g'} {left} {k} {left'} u q w =
+      let m : So (has left k) = true_has left k u.member in
+      let e : left' ≡ minus left (single k) = u.rest.is ∙ ap (λ (z : ℕ). minus left (single z)) (sym u.lowest.is) in
       let off : (j : ℕ) → So (has left' j) → So (has left j) × (So (has (single k) j) → ⊥)
       = λ j h. minus_e left (single k) j (subst (λ (z : ℕ). So (has z j)) e h) in
       record {

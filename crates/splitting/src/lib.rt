@@ -1,4 +1,6 @@
 // Splitting a set of species into its connected parts under the entered triplets' links. The rows of links are known here alone.
+// Nearly all of a build's time goes here. With a `for` over `sets::species` in place of the loops over what is left of a set it took up to 1.4 times what
+// the twin takes, where 1.3 is its limit; with them it takes 1.0 to 1.1 times (`bench/run`).
 #![tactic(auto)]
 
 ghost use Rattle.std.specs.Prelude.{◌≡◌, ◌<◌, length};
@@ -104,8 +106,7 @@ fn mirror(s: u64, g: &mut [u64; 64])
     let mut left = s;
     while left != 0 {
         let a = sets::lowest(left);
-        let low = sets::all(a);
-        let row = sets::minus(g[a], low);
+        let row = sets::minus(g[a], sets::all(a));
         give(row, a, g);
         left = sets::rest(left);
     }
@@ -136,6 +137,7 @@ fn part(g: &[u64; 64], a: usize) -> u64
     let mut reached = sets::single(a);
     let mut done = 0;
     let mut todo = reached;
+    // What is to do grows on the way, so this is no walk over a set that is known before.
     while todo != 0 {
         let i = sets::lowest(todo);
         reached = sets::union(reached, g[i]);
@@ -157,6 +159,7 @@ pub fn split(t: &[u8], s: u64, parts: &mut [u64; 64]) -> Parted
     let g = filled.rows;
     let mut rest = s;
     let mut k = 0;
+    // Each turn takes a whole part away, and not the lowest species alone.
     while rest != 0 {
         let p = part(&g, sets::lowest(rest));
         parts[k] = p;

@@ -3,12 +3,13 @@
 use Rattle.std.specs.Prelude.{Bool, cond, false, not, true, List, [], ◌∷◌, ◌++◌, ℕ, eqb, take}
 use Rattle.bodies.specs.Nodes.{longest}
 use Rattle.parsing.specs.Parses.{parse_answer}
-use Rattle.parsing.specs.declared.Answer.{Answer}
-use Rattle.parsing.specs.declared.Answer.TheVariants.{Done, Refused}
 use Rattle.places.specs.Causes.{cause_of, most_species}
 use Rattle.places.specs.declared.Cause.{Cause}
 use Rattle.places.specs.declared.Cause.TheVariants.{AtNode, AtPlace, Other}
 use Rattle.standing.specs.Words.{closing_word, colon_word, comma_word, digit_word, nothing_word, opening_word, or_word, point_word, semicolon_word}
+use Rattle.std.specs.Prelude.{Ok, Err, Result}
+use Rattle.refusals.specs.declared.Refusal.{Refusal}
+use Rattle.answers.specs.declared.Written.{Written}
 
 -- is it "14 at q"?
 abbrev pub is_at : ℕ → Cause → Bool
@@ -17,9 +18,9 @@ is_at q (AtNode x) = false
 is_at q Other = false
 
 -- is this answer "14 at q"?
-abbrev pub stops_at : ℕ → Answer → Bool
-stops_at q (Done w) = false
-stops_at q (Refused x) = is_at q (cause_of x)
+abbrev pub stops_at : ℕ → Result Written Refusal → Bool
+stops_at q (Ok w) = false
+stops_at q (Err x) = is_at q (cause_of x)
 
 -- may byte b stand at place q of the text t?
 unfoldable pub may_stand : List ℕ → ℕ → ℕ → Bool

@@ -1,8 +1,9 @@
 -- The whole text: its subtree, the semicolon, and the blanks behind it. Assumes nothing.
+use Rattle.std.proofs.Common.{Ok, Err}
 use mathlib.Core.Bool.{false, true}
 use mathlib.Core.List.{List, []}
 use mathlib.Core.Logic.{inr}
-use mathlib.Core.Path.{◌∙◌, ◌≡◌, ap, refl, subst}
+use mathlib.Core.Path.{◌∙◌, ◌≡◌, ap, refl}
 use Prim.Native.Nat.{ℕ, ◌+◌, ◌<◌, ◌≤◌}
 use native.Mathlib.Omega.{arith}
 use lib.ListN.{drop, drop_of_length-le, get_or, length, take}
@@ -12,7 +13,6 @@ use Rattle.newick.specs.Signs.{Sign, closing, colon, comma, figure, foreign, ope
 use Rattle.numerals.specs.Goes.{Goes, PastBlanks}
 use Rattle.subtrees.specs.Subtrees.{SubtreeRead, Whole}
 use Rattle.numerals.specs.declared.Got.{Got}
-use Rattle.numerals.specs.declared.Got.TheVariants.{At, Bad}
 use Rattle.numerals.proofs.Lengths.{ended_idle, not_semicolon, not_space}
 use Rattle.numerals.proofs.Steps.{Off, goes_off, goes_on, goes_out}
 
@@ -49,27 +49,21 @@ unfolding scan_from
 ended_good w e n d l = ap (scan_from true (state ended [] n d)) (drop_of_length-le w {i = e} l)
 
 module _ (w o o' : List ℕ) where
-  pub whole_bad : (q : ℕ) → SubtreeRead w 0 none 0 0 o o' (Bad q) → Whole w o' (Bad q)
-  whole_bad q x = (x.ahead, x.reads [] refl refl)
+  module _ (g : Got) (x : SubtreeRead w 0 none 0 0 o o' (Ok g)) where
+    pub whole_out : length w ≤ g.end → Whole w o' (Err (record { 0 = g.end }))
+    whole_out h = (x.ahead.1, x.reads [] refl refl ∙ goes_out w g.end _ (omega (arith, x.ahead.1)) refl)
 
-  module _ (j m : ℕ) (x : SubtreeRead w 0 none 0 0 o o' (At j m)) where
-    pub whole_out : length w ≤ j → Whole w o' (Bad j)
-    whole_out h = (x.ahead.1, x.reads [] refl refl ∙ goes_out w j _ (omega (arith, x.ahead.1)) refl)
-
-    pub whole_stray : j < length w → (get_or w j 0 ≡ 59 → ⊥) → Whole w o' (Bad j)
+    pub whole_stray : g.end < length w → (get_or w g.end 0 ≡ 59 → ⊥) → Whole w o' (Err (record { 0 = g.end }))
     whole_stray h f =
-        let c = get_or w j 0 in
-        (x.ahead.1, x.reads [] refl refl ∙ goes_off w j _ h (finish_off m (take (body_length m) o') (sign c) (not_space c (x.solid h)) (not_semicolon c f)))
+        let c = get_or w g.end 0 in
+        (x.ahead.1, x.reads [] refl refl ∙ goes_off w g.end _ h (finish_off g.nodes (take (body_length g.nodes) o') (sign c) (not_space c (x.solid h)) (not_semicolon c f)))
 
-    module _ (h : j < length w) (c : get_or w j 0 ≡ 59) (e : ℕ) (k : PastBlanks w (j + 1) e) where
-      ended_at : Goes w outset 0 (state ended [] m (take (body_length m) o')) e
-      ended_at = x.reads [] refl refl ∙ finish_goes w j m (take (body_length m) o') h c ∙ k.goes _ (ended_idle [] m (take (body_length m) o'))
+    module _ (h : g.end < length w) (c : get_or w g.end 0 ≡ 59) (e : ℕ) (k : PastBlanks w (g.end + 1) e) where
+      ended_at : Goes w outset 0 (state ended [] g.nodes (take (body_length g.nodes) o')) e
+      ended_at = x.reads [] refl refl ∙ finish_goes w g.end g.nodes (take (body_length g.nodes) o') h c ∙ k.goes _ (ended_idle [] g.nodes (take (body_length g.nodes) o'))
 
-      pub whole_more : e < length w → Whole w o' (Bad e)
-      whole_more l = (k.within, ended_at ∙ goes_off w e _ l (ended_off m (take (body_length m) o') (sign (get_or w e 0)) (not_space (get_or w e 0) (k.solid l))))
+      pub whole_more : e < length w → Whole w o' (Err (record { 0 = e }))
+      whole_more l = (k.within, ended_at ∙ goes_off w e _ l (ended_off g.nodes (take (body_length g.nodes) o') (sign (get_or w e 0)) (not_space (get_or w e 0) (k.solid l))))
 
-      pub whole_done : length w ≤ e → Whole w o' (At e m)
-      whole_done l = (x.ahead.2, ended_at ∙ ended_good w e m (take (body_length m) o') l)
-
-pub told_whole : (w o : List ℕ) {r r' : Got} → r ≡ r' → Whole w o r → Whole w o r'
-told_whole w o e x = subst (Whole w o) e x
+      pub whole_done : length w ≤ e → Whole w o' (Ok (record { end = e; nodes = g.nodes }))
+      whole_done l = (x.ahead.2, ended_at ∙ ended_good w e g.nodes (take (body_length g.nodes) o') l)

@@ -12,47 +12,48 @@ use Rattle.answers.proofs.Good.{length_pass}
 use Rattle.refusals.proofs.Numbers.{values_few}
 use Rattle.refusals.specs.Told.{looked_count, value}
 use Rattle.answers.specs.Looks.{first_refusal, look_count, look_table}
-use Rattle.answers.specs.declared.Look.TheVariants.{Pass}
 use Rattle.collections.specs.Layout.{species, trees}
 use Rattle.collections.specs.Reads.{read_answer, read_looks, read_told}
-use Rattle.collections.specs.declared.Answer as Reading
 use Rattle.listing.specs.Lists.{list_answer, list_looks, list_of, said_up_to}
 use Rattle.records.specs.Records.{in_records}
 use Rattle.entering.specs.Enters.{enter_answer, enter_looks, enter_of, enter_told}
-use Rattle.entering.specs.declared.Answer as Entering
 use Rattle.admitting.specs.GoodSet.{input_looks}
 use Rattle.building.specs.Builds.{answer_told, body_in, build_answer, build_looks, build_room, build_told, outcome}
 use Rattle.building.specs.Vetoes.{veto_answer, vetoed}
-use Rattle.building.specs.declared.Answer as Building
 use Rattle.building.specs.declared.Counted.{Counted}
 use Rattle.reply_text.proofs.Lengths.{after_few, bare_few}
 use Rattle.table_lines.specs.Lines.{build_line, enter_line, list_line, read_line, veto_line}
+use Rattle.std.specs.Prelude.{Ok, Err, Result}
+use Rattle.refusals.specs.declared.Refusal.{Refusal}
+use Rattle.collections.specs.declared.Counts.{Counts}
+use Rattle.entering.specs.declared.Entry.{Entry}
+use Rattle.answers.specs.declared.Written.{Written}
 
 -- ---- three values at most
 
-read_values : (a : Reading.Answer) → length (read_told a).values ≤ 3
-read_values (Reading.TheVariants.Done c) = omega arith
-read_values (Reading.TheVariants.Refused x) = omega (arith, values_few x)
+read_values : (a : Result Counts Refusal) → length (read_told a).values ≤ 3
+read_values (Ok c) = omega arith
+read_values (Err x) = omega (arith, values_few x)
 
-enter_values : (a : Entering.Answer) → length (enter_told a).values ≤ 3
-enter_values (Entering.TheVariants.Done e) = omega arith
-enter_values (Entering.TheVariants.Refused x) = omega (arith, values_few x)
+enter_values : (a : Result Entry Refusal) → length (enter_told a).values ≤ 3
+enter_values (Ok e) = omega arith
+enter_values (Err x) = omega (arith, values_few x)
 
-answer_values : (a : Building.Answer) → length (answer_told a).values ≤ 2
-answer_values (Building.TheVariants.Done w) = omega arith
-answer_values (Building.TheVariants.Refused x) = values_few x
+answer_values : (a : Result Written Refusal) → length (answer_told a).values ≤ 2
+answer_values (Ok w) = omega arith
+answer_values (Err x) = values_few x
 
 build_values : (r : Counted) → length (build_told r).values ≤ 3
 build_values r = omega (arith, length-append (answer_told r.answer).values (value looked_count r.looked ∷ []), answer_values r.answer)
 
 -- ---- a table that is listed or entered is as long as it was
 
-list_length : (b : List ℕ) (l : ℕ) → first_refusal (list_looks b l) ≡ Pass → length (list_of b) ≡ l
+list_length : (b : List ℕ) (l : ℕ) → first_refusal (list_looks b l) ≡ Ok tt → length (list_of b) ≡ l
 list_length b l h =
     let p = ((then_pass (first_refusal (read_looks b)) (first_refusal (look_table (species b) l ∷ []))).0 (sym (first_append (read_looks b) (look_table (species b) l ∷ [])) ∙ h)).1 in
-    table_length (species b) (said_up_to b (trees b)) ∙ sym ((length_pass (species b) l).0 ((then_pass (look_table (species b) l) Pass).0 p).0)
+    table_length (species b) (said_up_to b (trees b)) ∙ sym ((length_pass (species b) l).0 ((then_pass (look_table (species b) l) (Ok tt)).0 p).0)
 
-enter-length : (n : ℕ) (rs : List (List ℕ)) (l : ℕ) → first_refusal (enter_looks n rs l) ≡ Pass → length (enter_of n rs) ≡ l
+enter-length : (n : ℕ) (rs : List (List ℕ)) (l : ℕ) → first_refusal (enter_looks n rs l) ≡ Ok tt → length (enter_of n rs) ≡ l
 enter-length n rs l h =
     let p = ((then_pass (look_count n) _).0 h).1 in
     table_length n (plain (in_records rs)) ∙ sym ((length_pass n l).0 ((then_pass (look_table n l) _).0 p).0)

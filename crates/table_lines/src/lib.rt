@@ -6,48 +6,67 @@ ghost use Rattle.listing.specs.Lists.{list_after};
 ghost use Rattle.entering.specs.Enters.{enter_after};
 ghost use Rattle.building.specs.Builds.{build_after};
 ghost use Rattle.building.specs.Vetoes.{veto_after};
-ghost use Rattle.writing.specs.Writes.{Writes};
+ghost use Rattle.writing.specs.Texts.{wrote};
 ghost use Rattle.table_lines.specs.Lines.{read_line, list_line, enter_line, build_line, veto_line};
 
+use writing::Text;
+
 // Reads a collection, and writes the line of the call.
-pub fn read_line(out: &mut [u8], at: usize, b: &[u8]) -> usize
-    ensures { Writes out.old at (read_line b.now) out.new result }
+pub fn read_line<const ROOM: usize>(out: &mut Text<ROOM>, b: &[u8])
+    ensures { out.new ≡ wrote ROOM out.old (read_line b.now) }
 {
-    reply_text::put_line(out, at, replies::read(collections::read(b)))
+    reply_text::put_line(out, replies::answer(collections::read(b)));
 }
 
 // Lists a collection into the table t, and writes the line of the call.
-pub fn list_line(out: &mut [u8], at: usize, b: &[u8], t: &mut [u8]) -> usize
-    ensures writes { Writes out.old at (list_line b.now t.old) out.new result }
+pub fn list_line<const ROOM: usize>(out: &mut Text<ROOM>, b: &[u8], t: &mut [u8])
+    ensures writes { out.new ≡ wrote ROOM out.old (list_line b.now t.old) }
     ensures t_after { t.new ≡ list_after b.now t.old }
 {
     let a = listing::list(b, t);
-    reply_text::put_barred(out, at, replies::read(a), t)
+    reply_text::put_barred(out, replies::answer(a), t);
 }
 
 // Enters records into the table t, and writes the line of the call.
-pub fn enter_line(out: &mut [u8], at: usize, n: usize, records: &[[u8; 3]], t: &mut [u8]) -> usize
-    ensures writes { Writes out.old at (enter_line n records.now t.old) out.new result }
+pub fn enter_line<const ROOM: usize>(
+    out: &mut Text<ROOM>,
+    n: usize,
+    records: &[[u8; 3]],
+    t: &mut [u8],
+)
+    ensures writes { out.new ≡ wrote ROOM out.old (enter_line n records.now t.old) }
     ensures t_after { t.new ≡ enter_after n records.now t.old }
 {
     let a = entering::enter(n, records, t);
-    reply_text::put_barred(out, at, replies::enter(a), t)
+    reply_text::put_barred(out, replies::answer(a), t);
 }
 
 // Builds the tree of a set of species, of the table t, and writes the line of the call.
-pub fn build_line(out: &mut [u8], at: usize, n: usize, set: u64, t: &[u8], room: &mut [u8]) -> usize
-    ensures writes { Writes out.old at (build_line n set t.now room.old) out.new result }
+pub fn build_line<const ROOM: usize>(
+    out: &mut Text<ROOM>,
+    n: usize,
+    set: u64,
+    t: &[u8],
+    room: &mut [u8],
+)
+    ensures writes { out.new ≡ wrote ROOM out.old (build_line n set t.now room.old) }
     ensures room_after { room.new ≡ build_after n set t.now room.old }
 {
     let a = building::build(n, set, t, room);
-    reply_text::put_barred(out, at, replies::build(a), room)
+    reply_text::put_barred(out, replies::build(a), room);
 }
 
 // Makes the veto build of a set of species, of the table t, and writes the line of the call.
-pub fn veto_line(out: &mut [u8], at: usize, n: usize, set: u64, t: &[u8], room: &mut [u8]) -> usize
-    ensures writes { Writes out.old at (veto_line n set t.now room.old) out.new result }
+pub fn veto_line<const ROOM: usize>(
+    out: &mut Text<ROOM>,
+    n: usize,
+    set: u64,
+    t: &[u8],
+    room: &mut [u8],
+)
+    ensures writes { out.new ≡ wrote ROOM out.old (veto_line n set t.now room.old) }
     ensures room_after { room.new ≡ veto_after n set t.now room.old }
 {
     let a = building::veto(n, set, t, room);
-    reply_text::put_barred(out, at, replies::build(a), room)
+    reply_text::put_barred(out, replies::build(a), room);
 }

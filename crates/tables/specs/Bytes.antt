@@ -1,7 +1,7 @@
 -- The table of entered triplets. Document 01, "Species, sets, triples": "A triplet table has exactly C(n,3) bytes"; "In a byte, 1 stands for
 -- ab|c, 2 for ac|b, 4 for bc|a, added together; 0 says nothing. More than one bit means that sources disagree." Request T-05: "Listing adds 8 to a
 -- table byte where some tree holds all three as a fan."
-use Rattle.std.specs.Prelude.{◌≡◌, ◌≢◌, Bool, cond, not, ◌&&◌, ◌||◌, List, [], ◌∷◌, ℕ, suc, min, max, ◌≤◌, eqb, ltb, length, get_or, set}
+use Rattle.std.specs.Prelude.{◌≡◌, ◌≢◌, Bool, Option, None, Some, cond, not, ◌&&◌, ◌||◌, List, [], ◌∷◌, ℕ, suc, min, max, ◌≤◌, eqb, ltb, length, get_or, set}
 use Rattle.sets.specs.Sets.{has, union, single}
 use Rattle.trees.specs.Triplets.{Triplets, different, only, both}
 use Rattle.triples.specs.Index.{C, index, low, mid, high}
@@ -43,6 +43,10 @@ over (v ∷ t) = cond (ltb top v) 0 (suc (over t))
 -- refusal 8, "now for a byte over 15"
 abbrev pub wrong_byte : List ℕ → Bool
 wrong_byte t = ltb (over t) (length t)
+
+-- the first place with a byte that it may not hold, if there is one
+abbrev pub first_over : List ℕ → Option ℕ
+first_over t = cond (wrong_byte t) (Some (over t)) None
 
 -- where ab|c stands, for three species in any order: the place of their triple, and in its byte the bit 0 (which stands for 1) where c is the
 -- highest of the three, 1 (for 2) where it is the middle one, 2 (for 4) where it is the lowest

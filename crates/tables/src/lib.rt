@@ -1,12 +1,12 @@
 // The table of entered triplets: its bytes.
 #![tactic(auto)]
 
-ghost use Rattle.std.specs.Prelude.{◌≡◌, ◌<◌, ◌≤◌, get_or, length, replicate, set};
+ghost use Rattle.std.specs.Prelude.{◌≡◌, ◌<◌, ◌≤◌, length, replicate};
 ghost use Rattle.std.proofs.Math.Bool.{So};
 ghost use Rattle.sets.specs.Sets.{single};
 ghost use Rattle.trees.specs.Triplets.{different};
 ghost use Rattle.triples.specs.Index.{index};
-ghost use Rattle.tables.specs.Bytes.{fits, over, place_of, bit_of, entered, added, Byte, Entered};
+ghost use Rattle.tables.specs.Bytes.{fits, first_over, place_of, bit_of, entered, added, Byte, Entered};
 
 // What stands for ab|c, ac|b, bc|a and a fan in the byte of the triple a < b < c.
 pub const AB: u8 = 1;
@@ -43,34 +43,11 @@ pub fn fits(t: &[u8], n: usize) -> bool
     t.len() == triples::count(n)
 }
 
-// What the table holds at place i.
-fn held(t: &[u8], i: usize) -> u8
-    requires { i < length t.now }
-    ensures { result ≡ get_or t.now i 0 }
+// The first place with a byte over TOP, if there is one.
+pub fn over(t: &[u8]) -> Option<usize>
+    ensures { result ≡ first_over t.now }
 {
-    t[i]
-}
-
-// Lets the table hold v at place i.
-fn hold(t: &mut [u8], i: usize, v: u8)
-    requires { i < length t.old }
-    ensures { t.new ≡ set t.old i v }
-{
-    t[i] = v;
-}
-
-// The first place with a byte over TOP; the length where there is none.
-pub fn over(t: &[u8]) -> usize
-    ensures { result ≡ over t.now }
-{
-    let mut i = 0;
-    while i < t.len() {
-        if held(t, i) > TOP {
-            return i;
-        }
-        i += 1;
-    }
-    i
+    t.iter().position(|v| *v > TOP)
 }
 
 // The byte of the triple a < b < c; 0 where the table does not have it.
@@ -78,8 +55,7 @@ pub fn byte(t: &[u8], a: usize, b: usize, c: usize) -> u8
     requires { (a < b) × (b < c) × (c < 64) }
     ensures { Byte t.now a b c result }
 {
-    let i = triples::index(a, b, c);
-    if i < t.len() { held(t, i) } else { 0 }
+    t.get(triples::index(a, b, c)).copied().unwrap_or(0)
 }
 
 // What is entered of the triple a < b < c.
@@ -102,10 +78,10 @@ fn spot(a: usize, b: usize, c: usize) -> Mark
 {
     let t = triples::sorted(a, b, c);
     let i = triples::index(t.low, t.mid, t.high);
-    if triples::higher(a, b) < c {
+    if a.max(b) < c {
         return Mark { place: i, bit: AB };
     }
-    if triples::lower(a, b) < c {
+    if a.min(b) < c {
         return Mark { place: i, bit: AC };
     }
     Mark { place: i, bit: BC }
@@ -117,8 +93,7 @@ pub fn put(t: &mut [u8], a: usize, b: usize, c: usize)
     ensures { Entered t.old t.new a b c }
 {
     let s = spot(a, b, c);
-    let i = s.place;
-    hold(t, i, held(t, i) | s.bit);
+    t[s.place] |= s.bit;
 }
 
 // Adds bits to the byte of the triple a < b < c, which needs no sorting.
@@ -126,17 +101,12 @@ pub fn add(t: &mut [u8], a: usize, b: usize, c: usize, bits: u8)
     requires { (a < b) × (b < c) × (c < 64) × (index a b c < length t.old) }
     ensures { t.new ≡ added t.old (index a b c) bits }
 {
-    let i = triples::index(a, b, c);
-    hold(t, i, held(t, i) | bits);
+    t[triples::index(a, b, c)] |= bits;
 }
 
 // Takes everything out: a table of zeros.
 pub fn clear(t: &mut [u8])
     ensures { t.new ≡ replicate (length t.old) 0 }
 {
-    let mut i = 0;
-    while i < t.len() {
-        hold(t, i, 0);
-        i += 1;
-    }
+    t.fill(0);
 }

@@ -1,44 +1,58 @@
 -- The texts of an input, one after the other. Assumes nothing.
-use mathlib.Core.Bool.{Bool, cond, false, false≢true, true}
+use Rattle.std.proofs.Common.{None, Some}
+use Rattle.std.specs.List.{list_all, position, position_or_len}
+use mathlib.Core.Bool.{Bool, ◌&&◌, cond, not, false, false≢true, true}
 use mathlib.Core.List.{List, [], ◌∷◌, ◌++◌, append_assoc, flatten}
 use mathlib.Core.Path.{◌∙◌, ◌≡◌, ap, refl, sym}
-use Prim.Native.Nat.{ℕ, zero, suc, ◌+◌, ◌<◌, ◌≤◌}
-use native.Mathlib.Numerals.{add-one}
+use Prim.Native.Nat.{ℕ, zero, suc, ◌+◌, ◌-◌, ◌<◌, ◌≤◌}
 use native.Mathlib.Omega.{arith}
-use borrow.Author.Tests.{eq-eqb, ne_eqb}
-use lib.Dec.{eqb}
-use lib.ListN.{drop, drop_of_length-le, get_or, length, length-append, length-drop, take, take-append-drop}
-use lib.Seq.{drop-append_seam, drop-cons, split_at, take-append_seam}
+use borrow.Author.Tests.{ltb-false, ltb-true}
+use lib.Dec.{eqb, ltb}
+use lib.ListN.{drop, get_or, length, length-append, length-drop, take, take-append-drop}
+use lib.Seq.{drop-append_seam, split_at, take-append_seam, take_all}
 use Rattle.newick.specs.Form.{blank}
 use Rattle.texts.specs.Texts.{all_blank, span, texts, texts_in}
 
--- ---- blanks, and the span of a text, byte by byte
+-- ---- blanks, and the span of a text, in std's words
 
-module _ (w : List ℕ) (i : ℕ) where
-  pub blanks_end : length w ≤ i → true ≡ all_blank (drop i w)
-  unfolding all_blank
-  blanks_end h = rw (drop_of_length-le w {i = i} h) refl
+pub from_place : (w : List ℕ) (i : ℕ) → take (length w - i) (drop i w) ≡ drop i w
+from_place w i = let l = length-drop i w in take_all (length w - i) (drop i w) (omega arith)
 
-  pub span_end : length w ≤ i → span (drop i w) ≡ 0
-  unfolding span
-  span_end h = rw (drop_of_length-le w {i = i} h) refl
+pub blanks_all : (w : List ℕ) → list_all blank w ≡ all_blank w
+unfolding all_blank
+blanks_all [] = refl
+blanks_all (b ∷ w) = ap (λ (o : Bool). blank b && o) (blanks_all w)
 
-  module _ (l : i < length w) where
-    pub blanks_stop : blank (get_or w i 0) ≡ false → false ≡ all_blank (drop i w)
-    unfolding all_blank
-    blanks_stop h = rw (drop-cons w i 0 l, h) refl
+abbrev pub semicolon : ℕ → Bool
+semicolon b = eqb b 59
 
-    pub blanks_next : blank (get_or w i 0) ≡ true → all_blank (drop i w) ≡ all_blank (drop (i + 1) w)
-    unfolding all_blank
-    blanks_next h = rw (drop-cons w i 0 l, h, add-one i) refl
+-- a text goes up to its first semicolon, with it, or to the end where there is none
+span_first : (w : List ℕ) → (position_or_len semicolon w < length w → span w ≡ position_or_len semicolon w + 1) × (length w ≤ position_or_len semicolon w → span w ≡ length w)
+unfolding span
+span_first [] = (λ h. absurd (omega arith), λ h. refl)
+span_first (b ∷ w) = by (eqb b 59) (span_first w)
+  where
+    by : (o : Bool) → (position_or_len semicolon w < length w → span w ≡ position_or_len semicolon w + 1) × (length w ≤ position_or_len semicolon w → span w ≡ length w)
+        → (cond (not o) (1 + position_or_len semicolon w) 0 < suc (length w) → cond o 1 (suc (span w)) ≡ cond (not o) (1 + position_or_len semicolon w) 0 + 1)
+        × (suc (length w) ≤ cond (not o) (1 + position_or_len semicolon w) 0 → cond o 1 (suc (span w)) ≡ suc (length w))
+    by true i = (λ h. refl, λ h. absurd (omega arith))
+    by false i = (λ h. omega (arith, i.0 (omega arith)), λ h. omega (arith, i.1 (omega arith)))
 
-    pub span_stop : get_or w i 0 ≡ 59 → span (drop i w) ≡ 1
-    unfolding span
-    span_stop h = rw (drop-cons w i 0 l, eq-eqb (get_or w i 0) 59 h) refl
+pub span_closed : (w : List ℕ) (k : ℕ) → position semicolon w ≡ Some k → (span w ≡ k + 1) × (k < length w)
+span_closed w k = by (ltb (position_or_len semicolon w) (length w)) refl (span_first w)
+  where
+    by : (o : Bool) → ltb (position_or_len semicolon w) (length w) ≡ o → (position_or_len semicolon w < length w → span w ≡ position_or_len semicolon w + 1) × (length w ≤ position_or_len semicolon w → span w ≡ length w)
+        → cond o (Some (position_or_len semicolon w)) None ≡ Some k → (span w ≡ k + 1) × (k < length w)
+    by true e i h = let q : position_or_len semicolon w ≡ k = cc in let l : position_or_len semicolon w < length w = ltb-true _ _ e in (omega (arith, i.0 l), omega arith)
+    by false e i h = let z : ◌≡◌ {A = ℕ} 0 1 = cc in absurd (omega arith)
 
-    pub span-next : (get_or w i 0 ≡ 59 → ⊥) → span (drop i w) ≡ span (drop (i + 1) w) + 1
-    unfolding span
-    span-next h = rw (drop-cons w i 0 l, ne_eqb (get_or w i 0) 59 h, add-one i) (sym (add-one _))
+pub span_open : (w : List ℕ) → position semicolon w ≡ None → span w ≡ length w
+span_open w = by (ltb (position_or_len semicolon w) (length w)) refl (span_first w)
+  where
+    by : (o : Bool) → ltb (position_or_len semicolon w) (length w) ≡ o → (position_or_len semicolon w < length w → span w ≡ position_or_len semicolon w + 1) × (length w ≤ position_or_len semicolon w → span w ≡ length w)
+        → cond o (Some (position_or_len semicolon w)) None ≡ None → span w ≡ length w
+    by true e i h = let z : ◌≡◌ {A = ℕ} 0 1 = cc in absurd (omega arith)
+    by false e i h = i.1 (ltb-false _ _ e)
 
 -- ---- a text ends in the input, and has a byte
 

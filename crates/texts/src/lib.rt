@@ -9,14 +9,7 @@ pub fn blanks_only(input: &[u8], at: usize) -> bool
     requires { at ≤ length input.now }
     ensures { result ≡ all_blank (drop at input.now) }
 {
-    let mut i = at;
-    while i < input.len() {
-        if !numerals::blank(input[i]) {
-            return false;
-        }
-        i += 1;
-    }
-    true
+    input[at..].iter().all(|b| numerals::blank(*b))
 }
 
 // The end of the text that begins at `at`: behind its semicolon.
@@ -24,12 +17,8 @@ pub fn text_end(input: &[u8], at: usize) -> usize
     requires { at ≤ length input.now }
     ensures { (result ≡ at + span (drop at input.now)) × (result ≤ length input.now) }
 {
-    let mut i = at;
-    while i < input.len() {
-        if input[i] == b';' {
-            return i + 1;
-        }
-        i += 1;
+    match input[at..].iter().position(|b| *b == b';') {
+        Some(k) => at + k + 1,
+        None => input.len(),
     }
-    i
 }

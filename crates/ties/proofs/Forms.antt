@@ -22,15 +22,12 @@ use Rattle.triples.specs.Index.{C}
 use Rattle.bodies.specs.Draws.{tree_of}
 use Rattle.rules.specs.Faults.{fault}
 use Rattle.bodies.specs.Nodes.{bad_length, body_length, longest, nodes}
-use Rattle.bodies.specs.declared.Verdict.{Verdict}
-use Rattle.bodies.specs.declared.Verdict.TheVariants.{Breaks, Fine}
 use Rattle.answers.proofs.Answered.{Each, first_among, refuse_one}
 use Rattle.refusals.specs.Told.{Name, Told, Value, left_over, looked_count, number_of_nodes, node_number, stopping_set, told, tree_number, unnamed, value}
 use Rattle.answers.specs.Inputs.{Count, Table}
 use Rattle.answers.specs.Looks.{first_refusal, refuse_if, ruled}
 use Rattle.refusals.specs.Refusals.{refusal_told}
-use Rattle.answers.specs.declared.Look.{Look}
-use Rattle.answers.specs.declared.Look.TheVariants.{Pass, Refuse}
+use Rattle.answers.specs.Looks.{Look}
 use Rattle.refusals.specs.declared.Refusal.{Refusal}
 use Rattle.refusals.specs.declared.Refusal.TheVariants.{BadCounts, BadLength, BadTree, BadVersion, EndsEarly, LeftOver}
 use Rattle.collections.proofs.Whole.{read_pass}
@@ -41,9 +38,7 @@ use Rattle.collections.specs.Reads.{count_values, counts_of, looks_from, read_lo
 use Rattle.listing.specs.Lists.{list_of}
 use Rattle.outside.specs.Reaches.{Enclosed}
 use Rattle.building.specs.Builds.{build_answer, build_told}
-use Rattle.building.specs.declared.Answer as Building
 use Rattle.checking.specs.Checks.{check_answer, check_told}
-use Rattle.checking.specs.declared.Answer as Checking
 use Rattle.shelf_text.specs.Shelf.{body_text, build_word, built_text, node_in, read_word, shelf_text, shown_numbers, tree_in}
 use Rattle.shelf_text.specs.Texts.{line}
 use Rattle.promises.specs.Operations.{Given, builds, checks, gives, koodhaxil, lists}
@@ -56,6 +51,9 @@ use Rattle.promises.proofs.Chosen.{last_same, refused_some, value_is}
 use Rattle.promises.proofs.Listed.{good_listed, listed_good, lists_is, occurring-has, occurs_some}
 use Rattle.promises.proofs.Occurring.{empty_refused, good_set, occurring-below, occurring_enclosed}
 use Rattle.promises.proofs.Own.{built_checked}
+use Rattle.std.specs.Prelude.{Ok, Err, Result}
+use Rattle.answers.specs.declared.Written.{Written}
+use Rattle.bodies.specs.declared.Broken.{Broken}
 
 -- ---- a refusal of reading, in its three numbers
 
@@ -64,7 +62,7 @@ record Read (x : Refusal) : Type 0 where
   tree_is : ValueOr0 tree_number (refusal_told x).values (tree_in (refusal_told x).number (unnamed (refusal_told x).values))
   node_is : ValueOr0 node_number (refusal_told x).values (node_in (refusal_told x).number (unnamed (refusal_told x).values))
 
-one : (c : Bool) (y : Refusal) → Read y → (x : Refusal) → refuse_if c y ≡ Refuse x → Read x
+one : (c : Bool) (y : Refusal) → Read y → (x : Refusal) → refuse_if c y ≡ Err x → Read x
 one c y h = refuse_one Read c y h
 
 read_version : Read BadVersion
@@ -108,9 +106,9 @@ read_length k = record {
   node_is = inr (other k node_no_tree, refl);
 }
 
-rules : (v : Verdict) (x : Refusal) → ruled v ≡ Refuse x → Read x
-rules Fine x e = let z : ◌≡◌ {A = ℕ} 0 1 = cc in absurd (omega arith)
-rules (Breaks y) x e =
+rules : (v : Result (Unit {0}) Broken) (x : Refusal) → ruled v ≡ Err x → Read x
+rules (Ok _) x e = let z : ◌≡◌ {A = ℕ} 0 1 = cc in absurd (omega arith)
+rules (Err y) x e =
     let z : BadTree y ≡ x = cc in
     subst Read z (record { number = (omega arith, omega arith); tree_is = inl (inl refl); node_is = inl (inr (inl refl)) })
 
@@ -142,20 +140,20 @@ abbrev shown : Told → List ℕ
 shown r = shown_numbers r.number (unnamed r.values)
 
 module _ (n : ℕ) (t o : List ℕ) where
-  told_tree : (a : Building.Answer) (k c d : ℕ) → build_told (record { answer = a; looked = c }) ≡ told 0 (value number_of_nodes k ∷ value looked_count d ∷ [])
+  told_tree : (a : Result Written Refusal) (k c d : ℕ) → build_told (record { answer = a; looked = c }) ≡ told 0 (value number_of_nodes k ∷ value looked_count d ∷ [])
       → built_text n t o a ≡ line build_word (0 ∷ k ∷ []) ++ body_text n t (take (body_length k) o)
-  told_tree (Building.TheVariants.Done w) k c d e = ap (λ (m : ℕ). line build_word (0 ∷ m ∷ []) ++ body_text n t (take (body_length m) o)) (value_is w.nodes k e)
-  told_tree (Building.TheVariants.Refused x) k c d e = absurd (refused_some x (ap (λ (r : Told). r.number) e))
+  told_tree (Ok w) k c d e = ap (λ (m : ℕ). line build_word (0 ∷ m ∷ []) ++ body_text n t (take (body_length m) o)) (value_is w.nodes k e)
+  told_tree (Err x) k c d e = absurd (refused_some x (ap (λ (r : Told). r.number) e))
 
-  told_stop : (a : Building.Answer) (u c d : ℕ) → build_told (record { answer = a; looked = c }) ≡ told 10 (value stopping_set u ∷ value looked_count d ∷ []) → built_text n t o a ≡ line build_word (10 ∷ u ∷ [])
-  told_stop (Building.TheVariants.Done w) u c d e = absurd (omega (arith, ap (λ (r : Told). r.number) e))
-  told_stop (Building.TheVariants.Refused x) u c d e =
+  told_stop : (a : Result Written Refusal) (u c d : ℕ) → build_told (record { answer = a; looked = c }) ≡ told 10 (value stopping_set u ∷ value looked_count d ∷ []) → built_text n t o a ≡ line build_word (10 ∷ u ∷ [])
+  told_stop (Ok w) u c d e = absurd (omega (arith, ap (λ (r : Told). r.number) e))
+  told_stop (Err x) u c d e =
       let q = (last_same (refusal_told x).values (value stopping_set u ∷ []) _ _ (ap (λ (r : Told). r.values) e)).0 in
       append-nil _ ∙ ap₂ (λ (k : ℕ) (vs : List Value). line build_word (shown (told k vs))) (ap (λ (r : Told). r.number) e) q
 
-told-passed : (a : Checking.Answer) → (check_told a).number ≡ 0 → check_told a ≡ told 0 []
-told-passed Checking.TheVariants.Passes e = refl
-told-passed (Checking.TheVariants.Refused x) e = absurd (refused_some x e)
+told-passed : (a : Result (Unit {0}) Refusal) → (check_told a).number ≡ 0 → check_told a ≡ told 0 []
+told-passed (Ok _) e = refl
+told-passed (Err x) e = absurd (refused_some x e)
 
 -- ---- a collection
 
@@ -251,7 +249,7 @@ module _ (b : List ℕ) (w : Collection b) where
 
 -- ---- what is no collection
 
-unread_shown : (b : List ℕ) (x : Refusal) → first_refusal (read_looks b) ≡ Refuse x → ShowsUnread koodhaxil b (shelf_text b)
+unread_shown : (b : List ℕ) (x : Refusal) → first_refusal (read_looks b) ≡ Err x → ShowsUnread koodhaxil b (shelf_text b)
 unfolding shelf_text
 unread_shown b x e =
     let r = first_among Read (read_looks b) (all_read b) x e in
@@ -260,7 +258,7 @@ unread_shown b x e =
     let z = node_in (refusal_told x).number (unnamed (refusal_told x).values) in
     let text : shelf_text b ≡ line read_word ((refusal_told x).number ∷ y ∷ z ∷ []) = rw e refl in
     record {
-      unread = λ w. let d : Refuse x ≡ Pass = sym e ∙ (read_pass b).1 w in let i : ◌≡◌ {A = ℕ} 0 1 = cc in absurd (omega arith);
+      unread = λ w. let d : Err x ≡ Ok tt = sym e ∙ (read_pass b).1 w in let i : ◌≡◌ {A = ℕ} 0 1 = cc in absurd (omega arith);
       number = subst (λ (t : Told). (1 ≤ t.number) × (t.number ≤ 6)) (sym q) r.number;
       tree = y;
       tree_is = subst (λ (t : Told). ValueOr0 tree_number t.values y) (sym q) r.tree_is;
@@ -290,12 +288,12 @@ pub forms : (b : List ℕ) → Forms koodhaxil b (shelf_text b)
 forms b = go (first_refusal (read_looks b)) refl
   where
     go : (k : Look) → first_refusal (read_looks b) ≡ k → Forms koodhaxil b (shelf_text b)
-    go Pass e = collection_shown b ((read_pass b).0 e)
-    go (Refuse x) e = inl (unread_shown b x e)
+    go (Ok _) e = collection_shown b ((read_pass b).0 e)
+    go (Err x) e = inl (unread_shown b x e)
 
 pub shows_forms : ShowsForms koodhaxil
 shows_forms = record {
-  one_of = λ M 𝓤 𝓛 mem run κs a g r s. fact_mono 𝓤 _ _ (λ h. subst (Forms koodhaxil a.0.now) (sym h.0) (forms a.0.now));
+  one_of = λ M 𝓤 𝓛 mem run κs a g r s. fact_mono 𝓤 _ _ (λ h. subst (Forms koodhaxil a.0.now) (sym h) (forms a.0.now));
   unread_alone = λ b x y p q. ⊎_elim (λ s. p.unread s.collection) (⊎_elim (λ s. p.unread s.collection) (λ s. p.unread s.collection)) q;
   nobody_alone = λ b x y p q. ⊎_elim (nobody_stops b x y p) (nobody_tree b x y p) q;
   stop_alone = λ b x y p q. p.no_tree (_, q.keeps.held);

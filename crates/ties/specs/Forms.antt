@@ -1,7 +1,7 @@
 -- What `shelf` prints, in document 01's three forms and one more of request T-03, and in the words of the demands: "Line 1 has the number and the node count; line 2 the body; line 3 the check's
 -- number, with the triple index after it (index 0 too) unless the check's number is 0. Refusal 10 prints only `build 10` and the set in decimal. A collection
 -- refused prints `read`, the number, tree number and node, with 0 for what that refusal lacks."
-use Rattle.std.specs.Prelude.{List, [], ◌∷◌, ◌++◌, ◌⊎◌, ◌≡◌, ℕ, ◌≤◌, replicate, take}
+use Rattle.std.specs.Prelude.{List, [], ◌∷◌, ◌++◌, ◌⊎◌, ◌≡◌, ℕ, ◌≤◌, replicate}
 use Rattle.contracts.specs.AnyCall.{After}
 use Rattle.sets.specs.Sets.{has}
 use Rattle.trees.specs.Held.{CanBeHeld}
@@ -86,7 +86,7 @@ module _ (L : Operations) (b : List ℕ) where
 
 -- after any call of `shelf_text::shelf`, whatever bytes are handed in: the text has one of these forms, and the bytes alone say which
 pub record ShowsForms (L : Operations) : Type 2 where
-  pub one_of : After shelf.ended (λ M 𝓤. shelf.clauses) (λ κs a r s. Forms L a.0.now (take r s.1.1.0.now))
+  pub one_of : After shelf.ended (λ M 𝓤. shelf.clauses) (λ κs a r s. Forms L a.0.now s.1.1.0.now)
   pub unread_alone : (b x y : List ℕ) → ShowsUnread L b x → (ShowsNobody L b y ⊎ (ShowsStop L b y ⊎ ShowsTree L b y)) → ⊥
   pub nobody_alone : (b x y : List ℕ) → ShowsNobody L b x → (ShowsStop L b y ⊎ ShowsTree L b y) → ⊥
   pub stop_alone : (b x y : List ℕ) → ShowsStop L b x → ShowsTree L b y → ⊥

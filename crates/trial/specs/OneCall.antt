@@ -1,24 +1,30 @@
 -- One step of `trial`: a call is read, and its line written.
-use Rattle.std.specs.Prelude.{false, true, List, [], ◌⊎◌, ◌≡◌, ℕ}
+use Rattle.std.specs.declared.ops.ControlFlow.{ControlFlow}
+use Rattle.std.specs.declared.ops.ControlFlow.TheVariants.{Break, Continue}
+use Rattle.std.specs.Prelude.{List, [], ◌⊎◌, ◌≡◌, ℕ}
 use Rattle.calls.specs.Calls.{CallBytes}
 use Rattle.input.specs.Inputs.{Took}
 use Rattle.choosing.specs.Chosen.{line_of}
 use Rattle.making.specs.Made.{Waits, cut_line}
-use Rattle.input.specs.declared.Input.{Input}
+use Rattle.input.specs.declared.Reader.{Reader}
 
--- of the input i with the buffer b, which are i' and b' now, the bytes of a call were read, and the text w is the line of this call
-pub record MadeFrom (i : Input) (b : List ℕ) (i' : Input) (b' w : List ℕ) : Type 0 where
+-- of the reader i, which is i' now, the bytes of a call were read, and the text w is the line of this call
+pub record MadeFrom (i i' : Reader) (w : List ℕ) : Type 0 where
   pub bytes : List ℕ
-  pub took : Took i b bytes i' b'
+  pub took : Took i bytes i'
   pub byte : ℕ
   pub numbers : List ℕ
   pub fields : List (List ℕ)
   pub call : CallBytes byte numbers fields bytes
   pub line : w ≡ line_of byte numbers fields
 
+-- what is so of the text w of a step after which a call may follow, and of one after which none does
+abbrev pub Step : Reader → Reader → List ℕ → ControlFlow (Unit {0}) (Unit {0}) → Type 0
+Step i i' w (Continue _) = MadeFrom i i' w
+Step i i' w (Break _) = (w ≡ cut_line) ⊎ (w ≡ [])
+
 -- so it is with the text that now stands behind what waited, where all of the call was there; else the text is `cut`, or nothing
-pub record OneCall (i : Input) (b : List ℕ) (i' : Input) (b' o : List ℕ) (len : ℕ) (o' : List ℕ) (r : ℕ) : Type 0 where
+pub record OneCall (i i' : Reader) (o o' : List ℕ) (r : ControlFlow (Unit {0}) (Unit {0})) : Type 0 where
   pub text : List ℕ
-  pub waits : Waits o len text o' r
-  pub whole : i'.whole ≡ true → MadeFrom i b i' b' text
-  pub cut : i'.whole ≡ false → (text ≡ cut_line) ⊎ (text ≡ [])
+  pub waits : Waits o text o'
+  pub step : Step i i' text r

@@ -5,8 +5,8 @@ use mathlib.Core.Logic.{◌↔◌, ◌⊎◌, inl, inr, ⊎_elim}
 use mathlib.Core.Path.{◌∙◌, ◌≡◌, ap, ap₂, refl, subst, sym}
 use Prim.Native.Nat.{◌*◌, ◌+◌, ◌-◌, ◌/◌, ◌<◌, ◌≤◌, suc, zero, ℕ}
 use native.Mathlib.Omega.{arith}
-use borrow.Author.Tests.{eqb-true, le-leb, leb-false, leb-true, ltb-true, not-true}
-use lib.Dec.{eqb, leb, ltb}
+use borrow.Author.Tests.{eqb-true, le-leb, leb-false, leb-true, not-true}
+use lib.Dec.{eqb, leb}
 use Rattle.sets.proofs.Bools.{and_l, and_r, by_order, lt_of_ne, test}
 use Rattle.trees.proofs.Combinations.{C-more, C-none, C-one}
 use Rattle.triples.specs.Index.{C, high_at, index, largest, low_at, mid_at}
@@ -38,35 +38,26 @@ every_at f (suc n) h k l = test (eqb k n)
     (λ e. subst (λ (j : ℕ). So (f j)) (sym (eqb-true k n e)) (and_l (f n) (every f n) h))
     (λ e. every_at f n (and_r (f n) (every f n) h) k (lt_of_ne k n l e))
 
--- n(n-1) and n(n-1)(n-2) are what the closed forms divide: both are small, and the quotients grow by Pascal's rule
+-- n(n-1) and n(n-1)(n-2) are what the closed forms divide: the quotients grow by Pascal's rule
 abbrev two : ℕ → ℕ
 two n = n * (n - 1)
 
 abbrev three : ℕ → ℕ
 three n = n * (n - 1) * (n - 2)
 
-abbrev small : ℕ → Bool
-small n = ltb (two n) 4096 && ltb (three n) 262144
-
 abbrev grow : ℕ → Bool
 grow n = eqb (two (suc n) / 2) (two n / 2 + n) && eqb (three (suc n) / 6) (three n / 6 + two n / 2)
 
-tests : (n : ℕ) → n ≤ 64 → So (small n && grow n)
+tests : (n : ℕ) → n ≤ 64 → So (grow n)
 unfolding every
-tests n h = every_at (λ k. small k && grow k) 65 refl n (omega arith)
+tests n h = every_at grow 65 refl n (omega arith)
 
 module _ (n : ℕ) (h : n ≤ 64) where
-  pub two_small : n * (n - 1) < 4096
-  two_small = ltb-true _ _ (and_l (ltb (two n) 4096) (ltb (three n) 262144) (and_l (small n) (grow n) (tests n h)))
-
-  pub three_small : n * (n - 1) * (n - 2) < 262144
-  three_small = ltb-true _ _ (and_r (ltb (two n) 4096) (ltb (three n) 262144) (and_l (small n) (grow n) (tests n h)))
-
   two_grows : two (suc n) / 2 ≡ two n / 2 + n
-  two_grows = eqb-true _ _ (and_l (eqb (two (suc n) / 2) (two n / 2 + n)) (eqb (three (suc n) / 6) (three n / 6 + two n / 2)) (and_r (small n) (grow n) (tests n h)))
+  two_grows = eqb-true _ _ (and_l (eqb (two (suc n) / 2) (two n / 2 + n)) (eqb (three (suc n) / 6) (three n / 6 + two n / 2)) (tests n h))
 
   three_grows : three (suc n) / 6 ≡ three n / 6 + two n / 2
-  three_grows = eqb-true _ _ (and_r (eqb (two (suc n) / 2) (two n / 2 + n)) (eqb (three (suc n) / 6) (three n / 6 + two n / 2)) (and_r (small n) (grow n) (tests n h)))
+  three_grows = eqb-true _ _ (and_r (eqb (two (suc n) / 2) (two n / 2 + n)) (eqb (three (suc n) / 6) (three n / 6 + two n / 2)) (tests n h))
 
 pub halves : (n : ℕ) → n ≤ 64 → n * (n - 1) / 2 ≡ C n 2
 halves zero h = sym (C-none 1)
@@ -133,12 +124,6 @@ unfolding largest
 largest_down k m i h = test (leb (C (suc m) k) i)
     (λ e. absurd (omega (arith, leb-true (C (suc m) k) i e)))
     (λ e. ap (λ (b : Bool). cond b (suc m) (largest k m i)) (not-true (leb (C (suc m) k) i) e))
-
--- a search from m down: on while C(m,k) is more than i
-pub largest_pred : (k m i : ℕ) → 0 < k → i < C m k → (0 < m) × (largest k (m - 1) i ≡ largest k m i)
-largest_pred zero m i p h = absurd (omega arith)
-largest_pred (suc k) zero i p h = absurd (omega (arith, C-none k))
-largest_pred (suc k) (suc m) i p h = let e : suc m - 1 ≡ m = omega arith in (omega arith, ap (λ (x : ℕ). largest (suc k) x i) e ∙ sym (largest_down (suc k) m i h))
 
 -- where the number is known: x sets fit, and one more does not
 pub largest_is : (k m i x : ℕ) → x ≤ m → C x k ≤ i → i < C (suc x) k → largest k m i ≡ x

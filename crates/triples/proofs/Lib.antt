@@ -4,3 +4,4 @@ pub mod Values
 pub mod Names
 pub mod Find
 pub mod Search
+pub mod Tries

@@ -3,3 +3,4 @@ pub mod Index
 pub mod Find
 pub mod Finds
 pub mod Named
+pub mod Tries

@@ -1,9 +1,10 @@
 // Triples of species in increasing order, and their indices.
 #![tactic(auto)]
 
-ghost use Rattle.std.specs.Prelude.{◌≡◌, ◌<◌, ◌≤◌, min, max};
+ghost use Rattle.std.specs.Prelude.{◌≡◌, ◌<◌, ◌≤◌, ℕ};
 ghost use Rattle.triples.specs.Index.{C, index, low, mid, high, largest};
 ghost use Rattle.triples.specs.Named.{named};
+ghost use Rattle.triples.specs.Tries.{Passes, Tries};
 
 // Three species in increasing order.
 #[derive(Clone, Copy)]
@@ -11,20 +12,6 @@ pub struct Triple {
     pub low: usize,
     pub mid: usize,
     pub high: usize,
-}
-
-// The triple that an index stands for, for people to read.
-#[derive(Clone, Copy)]
-pub enum Named {
-    Known(Triple),
-    Beyond,
-}
-
-// Where a search for the first triple in index order ended.
-#[derive(Clone, Copy)]
-pub enum Found {
-    Nowhere,
-    At(Triple),
 }
 
 // C(n,3): how many triples n species have.
@@ -74,42 +61,29 @@ fn largest(k: usize, i: usize) -> usize
     requires { (2 ≤ k) × (k ≤ 3) }
     ensures { result ≡ largest k 64 i }
 {
-    let mut m = 64;
-    while combinations(m, k) > i {
-        m -= 1;
+    for m in 1..65 {
+        if combinations(m, k) > i {
+            return m - 1;
+        }
     }
-    m
+    64
 }
 
 // The triple with index i; beyond the 41,664 triples of 64 species there is none.
-pub fn triple_at(i: usize) -> Named
+pub fn triple_at(i: usize) -> Option<Triple>
     ensures { result ≡ named i }
 {
     if i >= count(64) {
-        return Named::Beyond;
+        return None;
     }
     let high = largest(3, i);
     let rest = i - count(high);
     let mid = largest(2, rest);
-    Named::Known(Triple {
+    Some(Triple {
         low: rest - pairs(mid),
         mid: mid,
         high: high,
     })
-}
-
-// The lower of two species.
-pub fn lower(a: usize, b: usize) -> usize
-    ensures { result ≡ min a b }
-{
-    if a < b { a } else { b }
-}
-
-// The higher of two species.
-pub fn higher(a: usize, b: usize) -> usize
-    ensures { result ≡ max a b }
-{
-    if a < b { b } else { a }
 }
 
 // Three species in order.
@@ -117,11 +91,35 @@ pub fn sorted(a: usize, b: usize, c: usize) -> Triple
     requires { (a < 64) × (b < 64) × (c < 64) }
     ensures { (result.low ≡ low a b c) × (result.mid ≡ mid a b c) × (result.high ≡ high a b c) }
 {
-    let l = lower(a, lower(b, c));
-    let h = higher(a, higher(b, c));
+    let l = a.min(b.min(c));
+    let h = a.max(b.max(c));
     Triple {
         low: l,
         mid: a + b + c - (l + h),
         high: h,
+    }
+}
+
+// The first triple of n species, in index order, for which a test holds. The test is asked of one triple after another up to that one, and may remember
+// what it found.
+pub fn first<F: FnMut(usize, usize, usize) -> bool>(n: usize, mut holds: F) -> Option<Triple>
+    requires { (f : F) (a b c : ℕ) → a < b → b < c → c < n → Passes n F.step (index a b c) holds f → F.pre f a b c }
+    ensures { Tries n F.step holds result }
+{
+    'search: {
+        for c in 0..n {
+            for b in 0..c {
+                for a in 0..b {
+                    if holds(a, b, c) {
+                        break 'search Some(Triple {
+                            low: a,
+                            mid: b,
+                            high: c,
+                        });
+                    }
+                }
+            }
+        }
+        None
     }
 }

@@ -23,7 +23,7 @@ use Rattle.tables.specs.Bytes.{entered}
 use Rattle.triples.specs.Find.{first_triple}
 use Rattle.triples.specs.Index.{C, high_at, index, low_at, mid_at}
 use Rattle.triples.specs.Named.{named}
-use Rattle.triples.specs.declared.Named.TheVariants.{Known}
+use Rattle.std.specs.Prelude.{Some}
 use Rattle.triples.specs.declared.Triple.{Triple}
 use Rattle.bodies.specs.Draws.{tree_of}
 use Rattle.groups.proofs.Meant.{says_exactly}
@@ -35,32 +35,31 @@ use Rattle.answers.proofs.Good.{body_pass, count_pass, table_pass}
 use Rattle.answers.specs.Inputs.{Body, Count, Table}
 use Rattle.answers.specs.Looks.{answered, first_refusal, look_bytes, look_count, look_length, look_rules, look_table, refuse_if}
 use Rattle.refusals.specs.declared.Contradiction.{Contradiction}
-use Rattle.answers.specs.declared.Look.{Look}
-use Rattle.answers.specs.declared.Look.TheVariants.{Pass}
+use Rattle.answers.specs.Looks.{Look}
 use Rattle.refusals.specs.declared.Refusal.TheVariants.{Contradicted, Unforced}
 use Rattle.checking.proofs.Judged.{agreed, formed, within}
 use Rattle.checking.specs.Checks.{answer_of, candidate_looks, check_answer, first_differs, first_unsure, triples_looks}
-use Rattle.checking.specs.declared.Answer.{Answer}
-use Rattle.checking.specs.declared.Answer.TheVariants.{Passes, Refused}
 use Rattle.verdict_text.proofs.Told.{unforced-told}
 use Rattle.verdict_text.specs.Verdict.{closer_text, said_text, triple_text, verdict_text}
+use Rattle.std.specs.Prelude.{Ok, Err, Result}
+use Rattle.refusals.specs.declared.Refusal.{Refusal}
 
 -- ---- good input
 
 module _ {n : ℕ} {t b : List ℕ} (c : Count n) (k : Table n t) (g : Body n b) where
   -- no look at the input refuses it
-  pub candidate_good : first_refusal (candidate_looks n t b) ≡ Pass
+  pub candidate_good : first_refusal (candidate_looks n t b) ≡ Ok tt
   candidate_good = (pass_both (look_count n ∷ []) (look_table n (length t) ∷ look_bytes t ∷ look_length 0 (length b) ∷ look_rules 0 n b ∷ [])
       (pass_one (look_count n) (count_pass n))
       (pass_both (look_table n (length t) ∷ look_bytes t ∷ []) (look_length 0 (length b) ∷ look_rules 0 n b ∷ []) (table_pass n t) (body_pass 0 n b))).1 (c, (k, g))
 
   -- so that the triples decide
   pub check_triples : check_answer n t b ≡ answer_of (triples_looks n t (tree_of b))
-  check_triples = ap (λ (a : Look). answered (λ (z : Answer). z) Refused a Passes) (first_on (candidate_looks n t b) (triples_looks n t (tree_of b)) candidate_good)
+  check_triples = ap (λ (a : Look). answered (λ (z : Result (Unit {0}) Refusal). z) Err a (Ok tt)) (first_on (candidate_looks n t b) (triples_looks n t (tree_of b)) candidate_good)
 
 -- ---- refusal 12
 
-unforced_look : (p q : Bool) (x : Contradiction) (j i : ℕ) → answer_of (refuse_if p (Contradicted x) ∷ refuse_if q (Unforced j) ∷ []) ≡ Refused (Unforced i)
+unforced_look : (p q : Bool) (x : Contradiction) (j i : ℕ) → answer_of (refuse_if p (Contradicted x) ∷ refuse_if q (Unforced j) ∷ []) ≡ Err (Unforced i)
     → (p ≡ false) × (q ≡ true) × (j ≡ i)
 unforced_look true q x j i e = let z : ◌≡◌ {A = ℕ} 0 1 = cc in absurd (omega arith)
 unforced_look false true x j i e = (refl, refl, cc)
@@ -76,7 +75,7 @@ pub record SaidHolds (n : ℕ) (t body : List ℕ) : Type 0 where
   pub held : So (holds (tree_of body) a b c)
   pub not_forced : Forced (R (entered t) (tree_of body)) (below n) a b c → ⊥
 
-module _ (n : ℕ) (t b : List ℕ) (c : Count n) (k : Table n t) (g : Body n b) (i : ℕ) (e : check_answer n t b ≡ Refused (Unforced i)) where
+module _ (n : ℕ) (t b : List ℕ) (c : Count n) (k : Table n t) (g : Body n b) (i : ℕ) (e : check_answer n t b ≡ Err (Unforced i)) where
   abbrev T : Tree
   T = tree_of b
 
@@ -118,7 +117,7 @@ module _ (n : ℕ) (t b : List ℕ) (c : Count n) (k : Table n t) (g : Body n b)
   abbrev x : Triple
   x = record { low = l; mid = m; high = h }
 
-  is_named : named i ≡ Known x
+  is_named : named i ≡ Some x
   is_named = ap named (sym order.3) ∙ named-index l m h order.0 order.1 (omega (arith, order.2, c.most))
 
   apart : So (different l m h)

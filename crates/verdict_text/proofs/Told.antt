@@ -8,8 +8,7 @@ use lib.Dec.{eqb}
 use lib.ListN.{length, length-append}
 use Rattle.trees.specs.Trees.{Tree}
 use Rattle.triples.specs.Named.{named}
-use Rattle.triples.specs.declared.Named.{Named}
-use Rattle.triples.specs.declared.Named.TheVariants.{Beyond, Known}
+use Rattle.std.specs.Prelude.{Option, None, Some}
 use Rattle.triples.specs.declared.Triple.{Triple}
 use Rattle.bodies.specs.Draws.{tree_of}
 use Rattle.groups.specs.Groups.{says}
@@ -20,12 +19,11 @@ use Rattle.refusals.specs.Told.{Told}
 use Rattle.refusals.specs.declared.Refusal.{Refusal}
 use Rattle.refusals.specs.declared.Refusal.TheVariants.{Unforced}
 use Rattle.checking.specs.Checks.{check_answer, check_told}
-use Rattle.checking.specs.declared.Answer.{Answer}
-use Rattle.checking.specs.declared.Answer.TheVariants.{Refused}
 use Rattle.writing.proofs.Digits.{decimal_few}
 use Rattle.writing.specs.Texts.{decimal, ended}
 use Rattle.verdict_text.specs.Verdict.{closer_text, index_in, said_text, told_text, triple_text, verdict_text}
 use Rattle.verdict_text.specs.Words.{and_word, closer_words, own_words, unforced_words}
+use Rattle.std.specs.Prelude.{Err, Result}
 
 -- ---- every refusal but 12
 
@@ -35,16 +33,16 @@ others = places_but (12 ∷ [])
 
 -- ---- the answer a of the check
 
-module _ (n : ℕ) (t b : List ℕ) (a : Answer) (e : a ≡ check_answer n t b) where
+module _ (n : ℕ) (t b : List ℕ) (a : Result (Unit {0}) Refusal) (e : a ≡ check_answer n t b) where
   verdict_is : told_text b (check_told a) ≡ verdict_text n t b
-  verdict_is = ap (λ (z : Answer). told_text b (check_told z)) e
+  verdict_is = ap (λ (z : Result (Unit {0}) Refusal). told_text b (check_told z)) e
 
-  module _ (x : Refusal) (p : a ≡ Refused x) where
-    refused_is : told_text b (check_told (Refused x)) ≡ verdict_text n t b
-    refused_is = ap (λ (z : Answer). told_text b (check_told z)) (sym p) ∙ verdict_is
+  module _ (x : Refusal) (p : a ≡ Err x) where
+    refused_is : told_text b (check_told (Err x)) ≡ verdict_text n t b
+    refused_is = ap (λ (z : Result (Unit {0}) Refusal). told_text b (check_told z)) (sym p) ∙ verdict_is
 
     pub unforced-told : (i : ℕ) → x ≡ Unforced i → triple_text (tree_of b) (named i) ≡ verdict_text n t b
-    unforced-told i q = ap (λ (z : Refusal). told_text b (check_told (Refused z))) (sym q) ∙ refused_is
+    unforced-told i q = ap (λ (z : Refusal). told_text b (check_told (Err z))) (sym q) ∙ refused_is
 
 -- ---- how long it is
 
@@ -72,9 +70,9 @@ said_few x BC = closer_few x.mid x.high x.low
 said_few x Fan = omega arith
 said_few x Absent = omega arith
 
-triple_few : (T : Tree) (k : Named) → length (triple_text T k) ≤ 122
-triple_few T (Known x) = said_few x (says T x.low x.mid x.high)
-triple_few T Beyond = omega arith
+triple_few : (T : Tree) (k : Option Triple) → length (triple_text T k) ≤ 122
+triple_few T (Some x) = said_few x (says T x.low x.mid x.high)
+triple_few T None = omega arith
 
 either_few : (b : Bool) (l m : List ℕ) → length l ≤ 122 → length m ≤ 122 → length (cond b l m) ≤ 122
 either_few true l m h k = h

@@ -1,10 +1,8 @@
 -- The line of the check of a built tree. "The check of that built tree, with the table: passes: `every group is the papers' own`; refusal 12 at a triple: `not forced by
 -- the papers: A and B closer to each other than to C`, where AB|C is what the built tree says of the three species, A < B."
-use Rattle.std.specs.Prelude.{cond, List, [], ◌∷◌, ◌++◌, ℕ, eqb}
+use Rattle.std.specs.Prelude.{cond, List, [], ◌∷◌, ◌++◌, ℕ, eqb, Option, None, Some}
 use Rattle.trees.specs.Trees.{Tree}
 use Rattle.triples.specs.Named.{named}
-use Rattle.triples.specs.declared.Named.{Named}
-use Rattle.triples.specs.declared.Named.TheVariants.{Beyond, Known}
 use Rattle.triples.specs.declared.Triple.{Triple}
 use Rattle.bodies.specs.Draws.{tree_of}
 use Rattle.groups.specs.Groups.{says}
@@ -28,9 +26,9 @@ said_text x Fan = []
 said_text x Absent = []
 
 -- the triple that an index stands for, in the tree T
-abbrev pub triple_text : Tree → Named → List ℕ
-triple_text T (Known x) = said_text x (says T x.low x.mid x.high)
-triple_text T Beyond = []
+abbrev pub triple_text : Tree → Option Triple → List ℕ
+triple_text T (Some x) = said_text x (says T x.low x.mid x.high)
+triple_text T None = []
 
 -- the index that 12 returns
 abbrev pub index_in : List Value → ℕ

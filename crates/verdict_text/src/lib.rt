@@ -1,66 +1,67 @@
-// The line of the check of a built tree: that it passes, or the first triplet that is not forced. Each function writes at `at`, and answers where the next byte goes.
-#![tactic(auto)]
+// The line of the check of a built tree: that it passes, or the first triplet that is not forced.
+#![tactic(auto, using(writing::proofs::Writing::writes))]
 
+ghost use Rattle.std.specs.Prelude.{◌≡◌};
 ghost use Rattle.triples.specs.Named.{named};
 ghost use Rattle.bodies.specs.Draws.{tree_of};
 ghost use Rattle.answers.specs.Inputs.{Body, Count};
-ghost use Rattle.writing.specs.Writes.{Writes};
+ghost use Rattle.writing.specs.Texts.{wrote};
 ghost use Rattle.verdict_text.specs.Verdict.{closer_text, said_text, triple_text, verdict_text};
 
+use groups::Drawing;
+use refusals::Refusal;
+use writing::Text;
+
 // Writes the line of a triplet that is not forced.
-fn put_closer(out: &mut [u8], at: usize, a: usize, b: usize, c: usize) -> usize
-    ensures { Writes out.old at (closer_text a b c) out.new result }
+fn put_closer<const ROOM: usize>(out: &mut Text<ROOM>, a: usize, b: usize, c: usize)
+    ensures { out.new ≡ wrote ROOM out.old (closer_text a b c) }
 {
-    let p = writing::put_word(out, at, b"not forced by the papers: ");
-    let q = writing::put_decimal(out, p, a as u64);
-    let r = writing::put_word(out, q, b" and ");
-    let s = writing::put_decimal(out, r, b as u64);
-    let t = writing::put_word(out, s, b" closer to each other than to ");
-    let u = writing::put_decimal(out, t, c as u64);
-    writing::put(out, u, b'\n')
+    out.word(b"not forced by the papers: ");
+    out.decimal(a as u64);
+    out.word(b" and ");
+    out.decimal(b as u64);
+    out.word(b" closer to each other than to ");
+    out.decimal(c as u64);
+    out.push(b'\n');
 }
 
 // Writes the line of what a tree says of a triple.
-fn put_said(out: &mut [u8], at: usize, x: triples::Triple, s: groups::Says) -> usize
-    ensures { Writes out.old at (said_text x s) out.new result }
+fn put_said<const ROOM: usize>(out: &mut Text<ROOM>, x: triples::Triple, s: groups::Says)
+    ensures { out.new ≡ wrote ROOM out.old (said_text x s) }
 {
     match s {
-        groups::Says::AB => put_closer(out, at, x.low, x.mid, x.high),
-        groups::Says::AC => put_closer(out, at, x.low, x.high, x.mid),
-        groups::Says::BC => put_closer(out, at, x.mid, x.high, x.low),
-        groups::Says::Fan => at,
-        groups::Says::Absent => at,
+        groups::Says::AB => put_closer(out, x.low, x.mid, x.high),
+        groups::Says::AC => put_closer(out, x.low, x.high, x.mid),
+        groups::Says::BC => put_closer(out, x.mid, x.high, x.low),
+        groups::Says::Fan | groups::Says::Absent => {}
     }
 }
 
 // Writes the line of what the tree of a good body says of the triple with index i.
-fn put_triple(out: &mut [u8], at: usize, body: &[u8], i: usize) -> usize
+fn put_triple<const ROOM: usize>(out: &mut Text<ROOM>, body: &[u8], i: usize)
     requires { Body 64 body.now }
-    ensures { Writes out.old at (triple_text (tree_of body.now) (named i)) out.new result }
+    ensures { out.new ≡ wrote ROOM out.old (triple_text (tree_of body.now) (named i)) }
 {
-    let found = triples::triple_at(i);
-    match found {
-        triples::Named::Known(x) => {
-            let mut groups = [0; bodies::MOST_NODES];
-            let mut meets = [0; groups::CELLS];
-            let whole = groups::draw(body, &mut groups, &mut meets);
-            put_said(out, at, x, groups::ask(whole, &meets, x.low, x.mid, x.high))
-        }
-        triples::Named::Beyond => at,
+    if let Some(x) = triples::triple_at(i) {
+        let mut groups = [0; bodies::MOST_NODES];
+        let mut meets = [0; groups::CELLS];
+        let whole = groups::draw(body, &mut groups, &mut meets);
+        let drawing = Drawing {
+            whole,
+            meets: &meets,
+        };
+        put_said(out, x, drawing.ask(x.low, x.mid, x.high));
     }
 }
 
 // Checks the tree of a good body, and writes the line of that.
-pub fn put_verdict(out: &mut [u8], at: usize, n: usize, t: &[u8], body: &[u8]) -> usize
+pub fn put_verdict<const ROOM: usize>(out: &mut Text<ROOM>, n: usize, t: &[u8], body: &[u8])
     requires { Count n × Body n body.now }
-    ensures { Writes out.old at (verdict_text n t.now body.now) out.new result }
+    ensures { out.new ≡ wrote ROOM out.old (verdict_text n t.now body.now) }
 {
-    let answer = checking::check(n, t, body);
-    match answer {
-        checking::Answer::Passes => writing::put_word(out, at, b"every group is the papers' own\n"),
-        checking::Answer::Refused(x) => match x {
-            refusals::Refusal::Unforced(i) => put_triple(out, at, body, i),
-            _ => at,
-        },
+    match checking::check(n, t, body) {
+        Ok(()) => out.word(b"every group is the papers' own\n"),
+        Err(Refusal::Unforced(i)) => put_triple(out, body, i),
+        Err(_) => {}
     }
 }

@@ -1,3 +1,2 @@
--- Text in lent bytes: definitions only. What is proved of them stands in `proofs/`.
+-- Text: definitions only. What is proved of them stands in `proofs/`.
 pub mod Texts
-pub mod Writes

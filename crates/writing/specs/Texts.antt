@@ -1,5 +1,5 @@
 -- Text as bytes: numbers in decimal, and what ends a line.
-use Rattle.std.specs.Prelude.{cond, List, [], ◌∷◌, ◌++◌, ℕ, zero, suc, ◌+◌, ◌/◌, ◌%◌, ltb}
+use Rattle.std.specs.Prelude.{cond, List, [], ◌∷◌, ◌++◌, ℕ, zero, suc, ◌+◌, ◌/◌, ◌%◌, ◌-◌, ltb, length, take}
 
 -- the digit d as a byte
 abbrev pub glyph : ℕ → ℕ
@@ -22,3 +22,7 @@ spaced (n ∷ l) = 32 ∷ (decimal n ++ spaced l)
 -- a line ends with byte 10
 abbrev pub ended : List ℕ → List ℕ
 ended l = l ++ (10 ∷ [])
+
+-- the text o, and as much of w behind it as a room of so many bytes has room for
+unfoldable pub wrote : ℕ → List ℕ → List ℕ → List ℕ
+wrote room o w = o ++ take (room - length o) w

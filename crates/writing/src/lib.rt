@@ -1,19 +1,26 @@
-// Text into lent bytes: each function that puts writes at `at`, and answers where the next byte goes.
-#![tactic(auto)]
+// Text in a room of its own: what is written stands behind what is there, as far as there is room.
+#![tactic(auto, using(crate::proofs::Writing::writes))]
 
-ghost use Rattle.std.specs.Prelude.{◌≡◌, [], ◌∷◌, ◌++◌, ◌+◌, ◌<◌, ◌≤◌, length, take, drop};
-ghost use Rattle.writing.specs.Texts.{decimal, spaced};
-ghost use Rattle.writing.specs.Writes.{Writes};
+ghost use Rattle.std.specs.Prelude.{◌≡◌, [], ◌∷◌, ◌<◌, ◌+◌, ℕ, length, map};
+ghost use Rattle.writing.specs.Texts.{decimal, spaced, wrote};
 
-// Writes one byte.
-pub fn put(out: &mut [u8], at: usize, b: u8) -> usize
-    ensures { Writes out.old at (b ∷ []) out.new result }
-{
-    if at < out.len() {
-        out[at] = b;
-        return at + 1;
-    }
-    at
+use std::marker::Model;
+
+// The bytes of a text are the first `len` of the room.
+#[derive(Drop)]
+pub struct Text<const ROOM: usize> {
+    bytes: [u8; ROOM],
+    len: usize,
+}
+
+impl<const ROOM: usize> Model for Text<ROOM> {
+    ghost use Rattle.std.specs.Prelude.{ℕ, List, ◌≤◌, take};
+
+    ghost Value = { List ℕ };
+
+    ghost view = { λ s. take s.len s.bytes };
+
+    ghost invariant = { λ s. s.len ≤ ROOM };
 }
 
 // A digit as a byte.
@@ -21,76 +28,116 @@ fn glyph(d: u64) -> u8
     requires { d < 10 }
     ensures { result ≡ 48 + d }
 {
-    48 + d as u8
+    b'0' + d as u8
 }
 
-// Writes a number in decimal.
-pub fn put_decimal(out: &mut [u8], at: usize, n: u64) -> usize
-    ensures { Writes out.old at (decimal n) out.new result }
-{
-    if n < 10 {
-        return put(out, at, glyph(n));
+impl<const ROOM: usize> Text<ROOM> {
+    // A text with no bytes.
+    pub fn new() -> Self
+        ensures { result ≡ [] }
+    {
+        Text {
+            bytes: [0; ROOM],
+            len: 0,
+        }
     }
-    let next = put_decimal(out, at, n / 10);
-    put(out, next, glyph(n % 10))
-}
 
-// Writes a space and a number.
-pub fn put_spaced(out: &mut [u8], at: usize, n: u64) -> usize
-    ensures { Writes out.old at (32 ∷ decimal n) out.new result }
-{
-    let next = put(out, at, b' ');
-    put_decimal(out, next, n)
-}
-
-// Writes a word.
-pub fn put_word(out: &mut [u8], at: usize, w: &[u8]) -> usize
-    ensures { Writes out.old at w.now out.new result }
-{
-    let mut next = at;
-    let mut i = 0;
-    while i < w.len() {
-        next = put(out, next, w[i]);
-        i += 1;
+    // The bytes of the text.
+    pub fn as_slice(&self) -> &[u8]
+        ensures { result.now ≡ self.now }
+    {
+        &self.bytes[..self.len]
     }
-    next
-}
 
-// Writes bytes in decimal, each after a space.
-pub fn put_bytes(out: &mut [u8], at: usize, l: &[u8]) -> usize
-    ensures { Writes out.old at (spaced l.now) out.new result }
-{
-    let mut next = at;
-    let mut i = 0;
-    while i < l.len() {
-        let begun = put(out, next, b' ');
-        next = put_decimal(out, begun, l[i] as u64);
-        i += 1;
+    // How many bytes the text has.
+    pub fn len(&self) -> usize
+        ensures { result ≡ length self.now }
+    {
+        self.len
     }
-    next
-}
 
-// Writes sets, as 64-bit numbers in decimal, each after a space.
-pub fn put_sets(out: &mut [u8], at: usize, l: &[u64]) -> usize
-    ensures { Writes out.old at (spaced l.now) out.new result }
-{
-    let mut next = at;
-    let mut i = 0;
-    while i < l.len() {
-        next = put_spaced(out, next, l[i]);
-        i += 1;
+    // Takes all bytes away.
+    pub fn clear(&mut self)
+        ensures { self.new ≡ [] }
+    {
+        self.len = 0;
     }
-    next
+
+    // Writes one byte.
+    pub fn push(&mut self, b: u8)
+        ensures { self.new ≡ wrote ROOM self.old (b ∷ []) }
+    {
+        if self.len < ROOM {
+            self.bytes[self.len] = b;
+            self.len += 1;
+        }
+    }
+
+    // Writes a word.
+    pub fn word(&mut self, w: &[u8])
+        ensures { self.new ≡ wrote ROOM self.old w.now }
+    {
+        for b in w {
+            self.push(*b);
+        }
+    }
+
+    // Writes a number in decimal.
+    pub fn decimal(&mut self, n: u64)
+        ensures { self.new ≡ wrote ROOM self.old (decimal n) }
+    {
+        if n >= 10 {
+            self.decimal(n / 10);
+        }
+        self.push(glyph(n % 10));
+    }
+
+    // Writes a space and a number.
+    pub fn spaced(&mut self, n: u64)
+        ensures { self.new ≡ wrote ROOM self.old (32 ∷ decimal n) }
+    {
+        self.push(b' ');
+        self.decimal(n);
+    }
+
+    // Writes numbers in decimal, each after a space.
+    pub fn numbers<T: Number>(&mut self, l: &[T])
+        ensures { self.new ≡ wrote ROOM self.old (spaced (map T.value l.now)) }
+    {
+        for x in l {
+            self.spaced(x.number());
+        }
+    }
 }
 
-// Lays the first `end` bytes of a text over the front of room.
-pub fn copy(text: &[u8], end: usize, room: &mut [u8])
-    requires { (end ≤ length text.now) × (end ≤ length room.old) }
-    ensures { room.new ≡ take end text.now ++ drop end room.old }
-{
-    let mut i = 0;
-    while i < end {
-        room[i] = text[i];
-        i += 1;
+// A number that fits 64 bits.
+pub trait Number: Copy {
+    ghost value: { Self → ℕ };
+
+    fn number(self) -> u64
+        ensures { result ≡ value self };
+}
+
+impl Number for u8 {
+    ghost value = { λ x. x };
+
+    fn number(self) -> u64 {
+        u64::from(self)
+    }
+}
+
+impl Number for u64 {
+    ghost value = { λ x. x };
+
+    fn number(self) -> u64 {
+        self
+    }
+}
+
+impl Number for usize {
+    ghost value = { λ x. x };
+
+    fn number(self) -> u64 {
+        self as u64
     }
 }

@@ -27,11 +27,11 @@ returns-then-b-lt3 c =
 pub returns-then-wrong_counts : goal.returns-then-wrong_counts
 returns-then-wrong_counts c =
     let one : version c.args.b.now ≡ 1 = omega arith in
-    let w = counts c.args.b.now c.wrong_counts.ensures c.wide-n.ensures.0 c.wide-m.ensures.0 in
+    let w = counts c.args.b.now c.wrong_counts.ensures c.from-n.ensures c.from-m.ensures in
     read_counts c.args.b.now c.if-b-eq0.false one c.if-b-lt3.false (w ∙ c.if-wrong_counts.true)
 
 pub returns : goal.returns
 returns c =
     let one : version c.args.b.now ≡ 1 = omega arith in
-    let w = counts c.args.b.now c.wrong_counts.ensures c.wide-n.ensures.0 c.wide-m.ensures.0 in
+    let w = counts c.args.b.now c.wrong_counts.ensures c.from-n.ensures c.from-m.ensures in
     c.all_trees.ensures ∙ read_trees c.args.b.now c.if-b-eq0.false one c.if-b-lt3.false (w ∙ c.if-wrong_counts.false)

@@ -1,15 +1,14 @@
--- A child's number is higher than its node's, and each turn of the loop takes a child off: what is written and what is still to do make the whole text.
+-- A child's number is higher than its node's; what is written and what is still to do make the whole text.
 use Rattle.std.proofs.Common.{◌-◌}
 use Rattle.sets.specs.Sets.{has}
 use Rattle.bodies.specs.Nodes.{nodes}
+use Rattle.children.proofs.Walk.{Over}
 use Rattle.cutting.proofs.InTurn.{Todo}
+use Rattle.rendering.specs.Texts.{text_room}
 use Rattle.cutting.proofs.+put.Given as goal
 
 abbrev pub decreases-put : goal.decreases-put
-decreases-put l = (nodes l.body.now).count - l.i
+decreases-put l = (nodes l.tree.body.now).count - l.i
 
-abbrev pub invariant-loop-rest : goal.invariant-loop-rest
-invariant-loop-rest l = Todo (nodes l.body) (has l.set) l.top l.at l.initial.out l.out l.next l.mark l.rest
-
-abbrev pub decreases-loop-rest : goal.decreases-loop-rest
-decreases-loop-rest l = l.rest
+abbrev pub invariant-loop-c : goal.invariant-loop-c
+invariant-loop-c l = Over l.tree l.top l.c-iterator × Todo (nodes l.tree.body.now) (has l.set) l.top text_room l.initial.draft l.draft l.mark l.c-iterator.rest

@@ -1,5 +1,5 @@
 -- The loop's invariant: node i's group is joined beside that of each sibling before j.
-use Rattle.std.proofs.Common.{◌-◌, ◌<◌, ℕ}
+use Rattle.std.proofs.Common.{◌<◌, ℕ}
 use Rattle.trees.specs.Triplets.{Triplets, Proper}
 use Rattle.bodies.specs.Nodes.{nodes}
 use Rattle.masks.specs.Masks.{Masks}
@@ -7,8 +7,4 @@ use Rattle.earned.specs.Siblings.{Beside}
 use Rattle.earned.proofs.beside_all.Given as goal
 
 abbrev pub invariant-loop-j : goal.invariant-loop-j
-invariant-loop-j l =
-    (0 < l.j) × ((E : Triplets) → Proper E → Masks E l.masks → (k : ℕ) → k < l.j → Beside E (nodes l.body) l.i k)
-
-abbrev pub decreases-loop-j : goal.decreases-loop-j
-decreases-loop-j l = l.count - l.j
+invariant-loop-j l = (E : Triplets) → Proper E → Masks E l.masks → (k : ℕ) → k < l.j → Beside E (nodes l.tree.body.now) l.i k

@@ -1,5 +1,5 @@
 -- The loop's invariant: the group of each node before i, the root aside, is joined beside that of each sibling.
-use Rattle.std.proofs.Common.{◌-◌, ◌<◌, ℕ}
+use Rattle.std.proofs.Common.{◌<◌, ℕ}
 use Rattle.trees.specs.Triplets.{Triplets, Proper}
 use Rattle.bodies.specs.Nodes.{nodes}
 use Rattle.masks.specs.Masks.{Masks}
@@ -7,8 +7,4 @@ use Rattle.earned.specs.Siblings.{Beside}
 use Rattle.earned.proofs.first_unearned.Given as goal
 
 abbrev pub invariant-loop-i : goal.invariant-loop-i
-invariant-loop-i l =
-    (0 < l.i) × ((E : Triplets) → Proper E → Masks E l.masks → (k : ℕ) → k < l.i → 0 < k → (j : ℕ) → Beside E (nodes l.body) k j)
-
-abbrev pub decreases-loop-i : goal.decreases-loop-i
-decreases-loop-i l = l.count - l.i
+invariant-loop-i l = (E : Triplets) → Proper E → Masks E l.masks → (k : ℕ) → k < l.i → 0 < k → (j : ℕ) → Beside E (nodes l.tree.body.now) k j

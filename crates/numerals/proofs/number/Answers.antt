@@ -1,4 +1,4 @@
--- `parsing::number` meets its contract: up to i the digits make v, which is at most 254. Assumes nothing.
+-- `numerals::number` meets its contract: up to i the digits make v, which is at most 254. Assumes nothing.
 use mathlib.Core.Bool.{So, true}
 use mathlib.Core.Logic.{inl, inr, ⊎_elim}
 use mathlib.Core.Path.{◌∙◌, ap, sym}
@@ -11,6 +11,7 @@ use Rattle.sets.proofs.Bools.{and_r}
 use Rattle.newick.specs.Form.{digit}
 use Rattle.newick.specs.Scan.{number, scan_from, state}
 use Rattle.numerals.proofs.Lengths.{number_begins, number_ends, number_goes, number_stops}
+use Rattle.numerals.proofs.Steps.{goes_past}
 use Rattle.numerals.proofs.number.Goals as goal
 
 -- the value of a digit is at most 9
@@ -20,33 +21,20 @@ low b h = leb-true b 57 (and_r (leb 48 b) (leb b 57) h)
 pub loop-i-init : goal.loop-i-init
 loop-i-init c =
     let w = c.args.text.now in
-    let v = c.value-v.ensures in (
-      omega arith,
-      omega (arith, c.requires.0),
-      omega (arith, v, low (get_or w c.args.at 0) c.requires.1),
-      λ ps n d k. number_begins w ps n d c.args.at c.requires.0 c.requires.1 k ∙ ap (λ (x : ℕ). scan_from true (state (number x) ps n d) (drop (c.args.at + 1) w)) (sym v),
-    )
-
-pub overflow_cast-result : goal.overflow_cast-result
-overflow_cast-result c = omega (arith, c.loop-i.invariant.2)
+    let v = c.value-v.ensures in
+    record {
+      fits = omega (arith, v, low (get_or w c.args.at 0) c.requires.1);
+      goes = λ ps n d k. number_begins w ps n d c.args.at c.requires.0 c.requires.1 k ∙ ap (λ (x : ℕ). scan_from true (state (number x) ps n d) (drop (c.args.at + 1) w)) (sym v);
+    }
 
 pub returns-then-not-digit : goal.returns-then-not-digit
 returns-then-not-digit c =
     let l = c.loop-i in
     let w = c.args.text.now in (
-      l.invariant.0,
-      l.invariant.1,
-      λ ps n d k. l.invariant.3 ps n d k ∙ number_ends w ps n d l.i l.v l.invariant.1 (λ h. sym c.digit.ensures ∙ c.if-not-digit.true),
+      omega arith,
+      omega arith,
+      λ ps n d k. l.invariant.goes ps n d k ∙ number_ends w ps n d l.i l.v (omega arith) (λ h. sym c.digit.ensures ∙ c.if-not-digit.true),
     )
-
-pub overflow_mul-x : goal.overflow_mul-x
-overflow_mul-x c = omega (arith, c.loop-i.invariant.2)
-
-pub overflow_add-x : goal.overflow_add-x
-overflow_add-x c =
-    let l = c.loop-i in
-    let h = sym c.digit.ensures ∙ c.if-not-digit.false in
-    omega (arith, l.invariant.2, c.value.ensures, low (get_or c.args.text.now l.i 0) h)
 
 pub returns-then-v-eq0 : goal.returns-then-v-eq0
 returns-then-v-eq0 c =
@@ -54,8 +42,8 @@ returns-then-v-eq0 c =
     let w = c.args.text.now in
     let h = sym c.digit.ensures ∙ c.if-not-digit.false in
     let v = c.value.ensures in (
-      l.invariant.1,
-      λ ps n d k. l.invariant.3 ps n d k ∙ number_stops w ps n d l.i l.v c.loop-i-test.true h
+      omega arith,
+      λ ps n d k. l.invariant.goes ps n d k ∙ number_stops w ps n d l.i l.v (omega arith) h
           (⊎_elim (λ x. inl x) (λ x. inr (omega (arith, v, x))) c.then-v-eq0.either),
     )
 
@@ -65,22 +53,18 @@ loop-i-preserved c =
     let w = c.args.text.now in
     let h = sym c.digit.ensures ∙ c.if-not-digit.false in
     let v = c.value.ensures in
-    let x = c.if-x-gt-LARGEST.false in (
-      omega (arith, l.invariant.0),
-      omega arith,
-      x,
-      λ ps n d k. l.invariant.3 ps n d k ∙ number_goes w ps n d l.i l.v c.loop-i-test.true h (omega arith) (omega (arith, v, x))
-          ∙ ap (λ (z : ℕ). scan_from true (state (number (10 * l.v + z)) ps n d) (drop (l.i + 1) w)) (sym v),
-    )
-
-pub overflow_cast-result-2 : goal.overflow_cast-result-2
-overflow_cast-result-2 c = omega (arith, c.loop-i.invariant.2)
+    let x = c.if-x-gt-LARGEST.false in
+    record {
+      fits = x;
+      goes = λ ps n d k. l.invariant.goes ps n d k ∙ number_goes w ps n d l.i l.v (omega arith) h (omega arith) (omega (arith, v, x))
+          ∙ ap (λ (z : ℕ). scan_from true (state (number (10 * l.v + z)) ps n d) (drop (l.i + 1) w)) (sym v);
+    }
 
 pub returns : goal.returns
 returns c =
     let l = c.loop-i in
     let w = c.args.text.now in (
-      l.invariant.0,
-      l.invariant.1,
-      λ ps n d k. l.invariant.3 ps n d k ∙ number_ends w ps n d l.i l.v l.invariant.1 (λ h. absurd (omega arith)),
+      omega arith,
+      omega arith,
+      λ ps n d k. l.invariant.goes ps n d k ∙ number_ends w ps n d l.i l.v (omega arith) (λ h. absurd (omega arith)) ∙ goes_past w _ l.i _ (omega arith) (λ j a b. absurd (omega arith)),
     )

@@ -1,64 +1,45 @@
--- `rendering::put` meets its contract: what is written and what is still to do make the whole text. A child's number is higher than its node's, and each
--- turn of the loop takes a child off. Assumes nothing.
-use Rattle.std.proofs.Common.{ℕ, ◌≡◌, ◌<◌, refl, sym, ap, ◌∙◌, arith}
-use Rattle.sets.specs.Sets.{minus}
-use Rattle.bodies.specs.Draws.{subtree}
+-- `rendering::put` meets its contract: what is written and what is still to do make the whole text. A child's number is higher than its node's. Assumes
+-- nothing.
+use Rattle.std.proofs.Common.{ℕ, sym, ap, ◌∙◌, arith}
 use Rattle.bodies.specs.Nodes.{nodes}
-use Rattle.groups.specs.Groups.{set_of}
-use Rattle.writing.specs.Texts.{decimal}
-use Rattle.writing.proofs.Writing.{writes_as}
+use Rattle.children.proofs.Walk.{over_gives, over_on}
+use Rattle.writing.specs.Texts.{decimal, wrote}
 use Rattle.rendering.proofs.InTurn.{Next, leaf_text, todo_end, todo_next, todo_start}
-use Rattle.rendering.proofs.+put.Goals.{After-child_with-c, After-minus-rest}
+use Rattle.rendering.specs.Texts.{text_room}
+use Rattle.rendering.proofs.+put.Goals.{In-Some}
 use Rattle.rendering.proofs.+put.Goals as goal
 
--- ---- what is known at a turn of the loop
-
-module _ {t : ℕ} where
-  -- the child that was found is the next one
-  next_child : (c : After-child_with-c t) → Next c.loop-rest.invariant c.child_with-c.result
-  next_child c =
-      todo_next (nodes c.args.body.now) c.requires.good c.args.groups.now c.requires.groups c.loop-rest.invariant
-      c.loop-rest-test.true c.lowest.result c.lowest.ensures c.child_with-c.result c.child_with-c.ensures
-
-  -- the species that are left once the child was written
-  off : (c : After-minus-rest t) → c.child_with-c.result < (nodes c.args.body.now).count
-      → c.minus-rest.result ≡ minus c.loop-rest.rest (set_of (subtree (nodes c.args.body.now) c.child_with-c.result))
-  off c within = c.minus-rest.ensures ∙ ap (minus c.loop-rest.rest) (c.requires.groups.group c.child_with-c.result within)
-
--- ---- the answers
+-- the child that comes
+next_child : {t : ℕ} (c : In-Some t) → Next c.loop-c.invariant.1 c.in-Some.c c.next.new.self.rest
+next_child c =
+    todo_next (nodes c.args.tree.body.now) c.args.tree.good c.args.tree.groups.now c.args.tree.groups_are c.loop-c.invariant.1
+    c.in-Some.c _ (over_gives c.loop-c.invariant.0 c.in-Some.ensures.steps)
 
 pub returns-then-s : goal.returns-then-s
 returns-then-s t c =
-    let e = leaf_text (nodes c.args.body.now) c.requires.good c.args.i c.requires.i_bound.0 (λ z. c.if-s.true (c.species-s.ensures ∙ z)) in
-    writes_as (ap decimal c.species-s.ensures ∙ e) c.put_decimal.ensures
+    let e = leaf_text (nodes c.args.tree.body.now) c.args.tree.good c.args.i c.requires.i_bound (λ z. c.if-s.true (c.species-s.ensures ∙ z)) in
+    c.decimal.ensures ∙ ap (λ (x : ℕ). wrote text_room c.args.draft.now (decimal x)) (c.from.ensures ∙ c.species-s.ensures) ∙ ap (wrote text_room c.args.draft.now) e
 
-pub loop-rest-init : goal.loop-rest-init
-loop-rest-init t c =
-    todo_start (nodes c.args.body.now) c.requires.good c.args.i c.requires.i_bound.0 c.args.groups.now c.requires.groups
-    (sym c.species-s.ensures ∙ c.if-s.false) c.args.at c.args.draft.now _ refl
-
-pub put-next-requires : goal.put-next-requires
-put-next-requires t c =
-    let n = next_child (goal.at.put-next-requires t c).After-child_with-c in (
-      omega (arith, c.decreases, n.later, n.within),
-      (c.requires.good, (c.requires.groups, (n.within, c.requires.i_bound.1))),
+pub loop-c-init : goal.loop-c-init
+loop-c-init t c =
+    let a = c.args in (
+      record { tree = cc; node = cc },
+      todo_start (nodes a.tree.body.now) a.tree.good a.i c.requires.i_bound a.tree.groups.now a.tree.groups_are
+          (sym c.species-s.ensures ∙ c.if-s.false) text_room a.draft.now _ (cc),
     )
 
-pub offset_bounds-groups-c : goal.offset_bounds-groups-c
-offset_bounds-groups-c t c = omega (arith, (next_child (goal.at.offset_bounds-groups-c t c).After-child_with-c).within, c.requires.i_bound)
+pub put-requires : goal.put-requires
+put-requires t c =
+    let n = next_child (goal.at.put-requires t c).In-Some in
+    (omega (arith, c.decreases, n.later, n.within), n.within)
 
-pub bounds-groups-c : goal.bounds-groups-c
-bounds-groups-c t c = omega (arith, (next_child (goal.at.bounds-groups-c t c).After-child_with-c).within, c.requires.i_bound)
-
-pub loop-rest-smaller : goal.loop-rest-smaller
-loop-rest-smaller t c =
-    let n = next_child (goal.at.loop-rest-smaller t c).After-child_with-c in
-    omega (arith, off c n.within, n.fewer)
-
-pub loop-rest-preserved : goal.loop-rest-preserved
-loop-rest-preserved t c =
-    let n = next_child (goal.at.loop-rest-preserved t c).After-child_with-c in
-    n.again _ _ _ _ _ c.put-begun.ensures c.put-next.ensures (off c n.within)
+pub loop-c-preserved : goal.loop-c-preserved
+loop-c-preserved t c = (
+  over_on c.loop-c.invariant.0 c.in-Some.ensures.steps,
+  (next_child (goal.at.loop-c-preserved t c).In-Some).again _ _ c.push.ensures c.put.ensures,
+)
 
 pub returns : goal.returns
-returns t c = todo_end (nodes c.args.body.now) c.requires.good c.loop-rest.invariant c.loop-rest-test.false _ _ c.put.ensures
+returns t c =
+    todo_end (nodes c.args.tree.body.now) c.args.tree.good c.args.tree.groups.now c.args.tree.groups_are c.loop-c.invariant.1
+    c.next.new.self.rest (over_gives c.loop-c.invariant.0 c.in-None.ensures.steps) _ c.push-2.ensures

@@ -1,14 +1,13 @@
--- A child's number is higher than its node's, and each turn of the loop takes a child off: what is written and what is still to do make the whole text.
+-- A child's number is higher than its node's; what is written and what is still to do make the whole text.
 use Rattle.std.proofs.Common.{◌-◌}
 use Rattle.bodies.specs.Nodes.{nodes}
+use Rattle.children.proofs.Walk.{Over}
 use Rattle.rendering.proofs.InTurn.{Todo}
+use Rattle.rendering.specs.Texts.{text_room}
 use Rattle.rendering.proofs.+put.Given as goal
 
 abbrev pub decreases-put : goal.decreases-put
-decreases-put l = (nodes l.body.now).count - l.i
+decreases-put l = (nodes l.tree.body.now).count - l.i
 
-abbrev pub invariant-loop-rest : goal.invariant-loop-rest
-invariant-loop-rest l = Todo (nodes l.body) l.i l.at l.initial.draft l.draft l.next l.mark l.rest
-
-abbrev pub decreases-loop-rest : goal.decreases-loop-rest
-decreases-loop-rest l = l.rest
+abbrev pub invariant-loop-c : goal.invariant-loop-c
+invariant-loop-c l = Over l.tree l.i l.c-iterator × Todo (nodes l.tree.body.now) l.i text_room l.initial.draft l.draft l.mark l.c-iterator.rest

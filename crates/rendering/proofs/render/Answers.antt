@@ -1,92 +1,74 @@
 -- `rendering::render` meets its contract: what the looks refuse, a short room, and what is written where nothing is refused. Assumes nothing.
 use Rattle.std.proofs.Common.{List, ℕ, ◌∷◌, [], ◌++◌, length, ◌≡◌, ◌≤◌, refl, sym, ap, ap₂, ◌∙◌, arith}
 use borrow.Author.Tests.{le-ltb, lt-ltb}
-use lib.ListN.{drop, take}
+use lib.ListN.{drop}
 use Rattle.bodies.proofs.Written.{written-cut}
-use Rattle.bodies.specs.Draws.{written}
 use Rattle.answers.proofs.Answered.{first_on, is_done, is_refused, then_pass}
 use Rattle.answers.proofs.Good.{body_pass, count_pass}
 use Rattle.answers.specs.Inputs.{Body, Count}
-use Rattle.answers.specs.Looks.{look_then, first_refusal, look_count, look_length, look_room, look_rules}
-use Rattle.answers.specs.declared.Look.{Look}
-use Rattle.answers.specs.declared.Look.TheVariants.{Pass}
+use Rattle.answers.specs.Looks.{first_refusal, look_count, look_length, look_room, look_rules}
+use Rattle.answers.specs.Looks.{Look}
 use Rattle.refusals.specs.declared.Refusal.TheVariants.{ShortRoom}
 use Rattle.children.proofs.Ready.{Ready, is_ready}
-use Rattle.writing.proofs.Writing.{writes_both, writes_next, writes_whole}
-use Rattle.writing.specs.Writes.{Writes}
-use Rattle.rendering.specs.Texts.{newick_text}
+use Rattle.writing.proofs.Writing.{writes, wrote_alone}
+use Rattle.rendering.specs.Texts.{newick_text, text_room}
 use Rattle.rendering.proofs.Texts.{body_longest}
-use Rattle.rendering.proofs.render.Goals.{After-put-end, In-Pass}
+use Rattle.rendering.proofs.render.Goals.{After-push}
 use Rattle.rendering.proofs.render.Goals as goal
+use Rattle.std.specs.Prelude.{Ok}
 
--- once nothing of 2, 5, 6 was refused
-module _ (c : In-Pass) where
-  abbrev n : ℕ
-  n = c.args.n
+-- 2, 5, 6; and 9
+abbrev early : ℕ → List ℕ → List Look
+early n body = look_count n ∷ look_length 0 (length body) ∷ look_rules 0 n body ∷ []
 
-  abbrev body : List ℕ
-  body = c.args.body.now
+abbrev late : List ℕ → List ℕ → List Look
+late body room = look_room (length (newick_text body)) (length room) ∷ []
 
-  abbrev room : List ℕ
-  room = c.args.room.now
+passed : (n : ℕ) (body : List ℕ) → Count n → Body n body → first_refusal (early n body) ≡ Ok tt
+passed n body k g = (then_pass (look_count n) _).1 ((count_pass n).1 k, (body_pass 0 n body).1 g)
 
-  -- 2, 5, 6; and 9
-  abbrev early : List Look
-  early = look_count n ∷ look_length 0 (length body) ∷ look_rules 0 n body ∷ []
-
-  abbrev late : List Look
-  late = look_room (length (newick_text body)) (length room) ∷ []
-
-  passed : first_refusal early ≡ Pass
-  passed = sym (c.and_then-look.ensures ∙ ap₂ look_then c.look_count.ensures c.look_body.ensures) ∙ c.in-Pass.is
-
-  right_count : Count n
-  right_count = (count_pass n).0 ((then_pass (look_count n) _).0 passed).0
-
-  good_body : Body n body
-  good_body = (body_pass 0 n body).0 ((then_pass (look_count n) _).0 passed).1
-
-  ready : Ready body
-  ready = is_ready n body right_count.most good_body.good good_body.long
+ready : (n : ℕ) (body : List ℕ) → Count n → Body n body → Ready body
+ready n body k g = is_ready n body k.most g.good g.long
 
 -- once the text stands in the draft
-module _ (c : After-put-end) (count : Count c.args.n) (good : Body c.args.n c.args.body.now) where
-  abbrev text : List ℕ
-  text = newick_text c.args.body.now
-
-  -- whole, since it fits into the draft
-  wrote : (take c.put-end.result c.put-end.new.out ≡ text) × (c.put-end.result ≡ length text) × (c.put-end.result ≤ length c.put-end.new.out)
-  wrote =
-      let w : Writes _ _ text _ _ = writes_both c.put-last.ensures c.put-end.ensures in
-      let fits = body_longest count good in
-      (writes_whole w (omega (arith, fits)), omega (arith, writes_next w (omega (arith, fits))), omega (arith, w.inside (omega arith), w.kept))
-
-  -- and was copied over the front of the room o
-  copied : (o o' : List ℕ) → length text ≤ length o → o' ≡ take c.put-end.result c.put-end.new.out ++ drop c.put-end.result o → o' ≡ written o text
-  copied o o' l e = e ∙ ap₂ (λ (w : List ℕ) (k : ℕ). w ++ drop k o) wrote.0 wrote.1 ∙ sym (written-cut o text l)
+module _ (c : After-push) (count : Count c.args.n) (good : Body c.args.n c.args.body.now) where
+  -- it is whole, since it fits
+  whole : c.push.new.self ≡ newick_text c.args.body.now
+  whole = simp (c.push.ensures, c.put.ensures, c.new-draft.ensures, writes) (wrote_alone text_room (newick_text c.args.body.now) (body_longest count good))
 
 -- ---- the answers
 
 pub groups-requires-clause-good : goal.groups-requires-clause-good
-groups-requires-clause-good c = (ready (goal.at.groups-requires-clause-good c).In-Pass).good
+groups-requires-clause-good c =
+    let k = (count_pass c.args.n).0 (sym c.look_count.ensures ∙ c.in_ok-look_count.was) in
+    (ready c.args.n c.args.body.now k ((body_pass 0 c.args.n c.args.body.now).0 (sym c.look_body.ensures ∙ c.in_ok-look_body.was))).good
 
-pub put-last-requires-clause-good : goal.put-last-requires-clause-good
-put-last-requires-clause-good c = (ready (goal.at.put-last-requires-clause-good c).In-Pass).good
+pub invariant_of-tree-clause-good : goal.invariant_of-tree-clause-good
+invariant_of-tree-clause-good c =
+    let k = (count_pass c.args.n).0 (sym c.look_count.ensures ∙ c.in_ok-look_count.was) in
+    (ready c.args.n c.args.body.now k ((body_pass 0 c.args.n c.args.body.now).0 (sym c.look_body.ensures ∙ c.in_ok-look_body.was))).good
 
 pub returns-then-room-end : goal.returns-then-room-end
 returns-then-room-end c =
-    let i = goal.at.returns-then-room-end c in
-    let x = i.In-Pass in
-    let w = wrote i.After-put-end (right_count x) (good_body x) in
+    let n = c.args.n in
+    let body = c.args.body.now in
+    let room = c.args.room.now in
+    let k = (count_pass n).0 (sym c.look_count.ensures ∙ c.in_ok-look_count.was) in
+    let g = (body_pass 0 n body).0 (sym c.look_body.ensures ∙ c.in_ok-look_body.was) in
+    let w = whole (goal.at.returns-then-room-end c).After-push k g in
     is_refused ShortRoom
-    (first_on (early x) (late x) (passed x) ∙ rw (lt-ltb (length (room x)) (length (newick_text (body x))) (omega (arith, c.if-room-end.true, w.1))) refl)
+    (first_on (early n body) (late body room) (passed n body k g) ∙ rw (lt-ltb (length room) (length (newick_text body)) (omega (arith, c.if-room-end.true, c.len-end.ensures, ap length w))) refl)
 
 pub returns : goal.returns
 returns c =
-    let i = goal.at.returns c in
-    let x = i.In-Pass in
-    let p = i.After-put-end in
-    let w = wrote p (right_count x) (good_body x) in
-    let fit : length (newick_text (body x)) ≤ length (room x) = omega (arith, c.if-room-end.false, w.1) in
-    is_done (first_on (early x) (late x) (passed x) ∙ rw (le-ltb (length (room x)) (length (newick_text (body x))) fit) refl)
-    (ap (λ (k : ℕ). record { length = k }) w.1) (copied p (right_count x) (good_body x) (room x) _ fit c.copy.ensures)
+    let n = c.args.n in
+    let body = c.args.body.now in
+    let room = c.args.room.now in
+    let k = (count_pass n).0 (sym c.look_count.ensures ∙ c.in_ok-look_count.was) in
+    let g = (body_pass 0 n body).0 (sym c.look_body.ensures ∙ c.in_ok-look_body.was) in
+    let w = whole (goal.at.returns c).After-push k g in
+    let long : c.len-end.result ≡ length (newick_text body) = c.len-end.ensures ∙ ap length w in
+    let fit : length (newick_text body) ≤ length room = omega (arith, c.if-room-end.false, long) in
+    is_done (first_on (early n body) (late body room) (passed n body k g) ∙ rw (le-ltb (length room) (length (newick_text body)) fit) refl)
+    (ap (λ (j : ℕ). record { length = j }) long)
+    (ap₂ (λ (t : List ℕ) (j : ℕ). t ++ drop j room) (c.copy_from_slice.ensures.after ∙ c.as_slice.ensures ∙ w) long ∙ sym (written-cut room (newick_text body) fit))

@@ -1,11 +1,9 @@
--- What was written, and the names of the signs that were not tried, come to the whole. Assumes nothing.
-use Rattle.std.proofs.Common.{◌-◌, ◌≤◌, ℕ, List}
-use Rattle.writing.specs.Writes.{Writes}
-use Rattle.standing.proofs.Names.{Left}
+-- What was written, and the names of the signs that were not tried, come to the whole.
+use Rattle.std.proofs.Common.{◌≡◌}
+use Rattle.writing.specs.Texts.{wrote}
+use Rattle.standing.specs.Expected.{expected}
+use Rattle.standing.proofs.Names.{names_left}
 use Rattle.standing.proofs.put_expected.Given as goal
 
-abbrev pub invariant-loop-k : goal.invariant-loop-k
-invariant-loop-k l = (l.k ≤ 7) × ((w : List ℕ) × Writes l.initial.out l.at w l.out l.next × Left l.text l.q l.k l.some w)
-
-abbrev pub decreases-loop-k : goal.decreases-loop-k
-decreases-loop-k l = 7 - l.k
+abbrev pub invariant-loop-sign : goal.invariant-loop-sign
+invariant-loop-sign g l = wrote g.row.ROOM l.out (names_left l.text l.q l.sign-index l.some) ≡ wrote g.row.ROOM l.initial.out (expected l.text l.q)

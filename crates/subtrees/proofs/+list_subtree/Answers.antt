@@ -1,38 +1,24 @@
 -- The two readers by their laws: each way out of the list, and each way out of the subtree. Assumes nothing.
-use Rattle.std.proofs.Common.{ℕ, ◌≡◌, length, ◌<◌, sym, ap, ◌∙◌, inl, inr, arith}
+use Rattle.std.proofs.Common.{ℕ, ◌<◌, length, sym, ap, ◌∙◌, inl, inr, rules, arith}
 use lib.Seq.{length-sets}
-use Rattle.bodies.specs.Nodes.{longest, most_nodes}
-use Rattle.subtrees.proofs.Subtrees.{list_again, list_bad, list_out, list_shut, list_starts, list_stray, subtree_bracket, subtree_many, subtree_no_list, subtree_no_number, subtree-number, subtree_out, subtree-over, subtree_stray}
-use Rattle.subtrees.proofs.+list_subtree.Goals.{subtree-After-put_inner, subtree-then-depth-eq-DEEPEST-via-then-depth-eq-DEEPEST, subtree-then-depth-eq-DEEPEST-via-else-depth-eq-DEEPEST+then-count-eq-MOST_NODES}
+use Rattle.bodies.specs.Nodes.{most_nodes}
+use Rattle.subtrees.proofs.Subtrees.{list_again, list_out, list_shut, list_stray, subtree_bracket, subtree_many, subtree_no_list, subtree_no_number, subtree-number, subtree_out, subtree-over, subtree_stray, told-subtree}
+use Rattle.subtrees.proofs.+list_subtree.Goals.{subtree-After-put_inner, subtree-then-depth-eq-DEEPEST-via-then-depth-eq-DEEPEST, subtree-then-depth-eq-DEEPEST-via-else-depth-eq-DEEPEST+then-count-eq-MOST_NODES, subtree-then-not-digit-via-then-not-digit, subtree-then-not-digit-via-else-not-digit+then-count-eq-MOST_NODES-2}
 use Rattle.subtrees.proofs.+list_subtree.Goals as goal
 
 -- ---- the list
 
-pub list-loop-j-init : goal.list-loop-j-init
-list-loop-j-init t c = list_starts _ _ _ _ _ _ c.requires.0 c.requires.2 c.requires.3
+pub list-returns-in-Some-eq41 : goal.list-returns-in-Some-eq41
+list-returns-in-Some-eq41 t c = list_shut _ _ _ _ _ _ _ _ _ _ c.loop-g.invariant _ c.in_ok-g.ensures (search rules) (search rules)
 
-pub list-subtree-g-requires : goal.list-subtree-g-requires
-list-subtree-g-requires t c =
-    let v = c.loop-j.invariant in
-    (omega (arith, c.decreases, v.ahead, v.within), (v.within, c.requires.1, v.few, v.kept))
+pub list-returns-in_default : goal.list-returns-in_default
+list-returns-in_default t c = list_stray _ _ _ _ _ _ _ _ _ _ c.loop-g.invariant _ c.in_ok-g.ensures (search rules) (search rules) (search rules)
 
-pub list-returns-then-j-text : goal.list-returns-then-j-text
-list-returns-then-j-text t c = list_out _ _ _ _ _ _ _ _ _ _ c.loop-j.invariant _ _ c.in-At.ensures c.if-j-text.true
+pub list-returns-in_default-2 : goal.list-returns-in_default-2
+list-returns-in_default-2 t c = list_out _ _ _ _ _ _ _ _ _ _ c.loop-g.invariant _ c.in_ok-g.ensures (search rules)
 
-pub list-returns-then-text-j-eq41 : goal.list-returns-then-text-j-eq41
-list-returns-then-text-j-eq41 t c = list_shut _ _ _ _ _ _ _ _ _ _ c.loop-j.invariant _ _ c.in-At.ensures c.if-j-text.false c.if-text-j-eq41.true
-
-pub list-returns-then-text-j-ne44 : goal.list-returns-then-text-j-ne44
-list-returns-then-text-j-ne44 t c = list_stray _ _ _ _ _ _ _ _ _ _ c.loop-j.invariant _ _ c.in-At.ensures c.if-j-text.false c.if-text-j-eq41.false c.if-text-j-ne44.true
-
-pub list-loop-j-smaller : goal.list-loop-j-smaller
-list-loop-j-smaller t c = let x = c.in-At.ensures in omega (arith, x.ahead.0, x.ahead.1)
-
-pub list-loop-j-preserved : goal.list-loop-j-preserved
-list-loop-j-preserved t c = list_again _ _ _ _ _ _ _ _ _ _ c.loop-j.invariant _ _ c.in-At.ensures c.if-j-text.false c.if-text-j-ne44.false
-
-pub list-returns-in-Bad : goal.list-returns-in-Bad
-list-returns-in-Bad t c = list_bad _ _ _ _ _ _ _ _ _ _ c.loop-j.invariant _ c.in-Bad.ensures
+pub list-loop-g-preserved : goal.list-loop-g-preserved
+list-loop-g-preserved t c = list_again _ _ _ _ _ _ _ _ _ _ c.loop-g.invariant _ c.in_ok-g.ensures (search rules) (search rules)
 
 -- ---- the subtree
 
@@ -55,38 +41,31 @@ module _ {t : ℕ} (c : subtree-After-put_inner t) where
   shallow : c.args.depth < 63
   shallow = omega (arith, c.requires.1, c.if-depth-eq-DEEPEST.false)
 
-  long : length c.put_inner.new.room ≡ longest
-  long = ap length c.put_inner.ensures ∙ simp length-sets c.requires.3
+pub subtree-returns-then-text-i-eq40 : goal.subtree-returns-then-text-i-eq40
+subtree-returns-then-text-i-eq40 t c =
+    let p = (goal.at.subtree-returns-then-text-i-eq40 t c).After-put_inner in
+    subtree_bracket _ _ _ _ _ _ _ c.skip-i.ensures c.requires.3 (few p) (shallow p) c.if-i-text.false c.if-text-i-eq40.true _ _ c.put_inner.ensures _ _ c.in_ok-g.ensures c.branch-text.ensures
 
-pub subtree-list-g-requires : goal.subtree-list-g-requires
-subtree-list-g-requires t c =
-    let p = (goal.at.subtree-list-g-requires t c).After-put_inner in
-    (omega (arith, c.decreases, c.skip-i.ensures.ahead, c.if-i-text.false), (omega (arith, c.if-i-text.false), omega (arith, shallow p), omega (arith, few p), long p))
-
-pub subtree-returns-in-At : goal.subtree-returns-in-At
-subtree-returns-in-At t c =
-    let p = (goal.at.subtree-returns-in-At t c).After-put_inner in
-    subtree_bracket _ _ _ _ _ _ _ c.skip-i.ensures c.requires.3 (few p) (shallow p) c.if-i-text.false c.if-text-i-eq40.true _ _ c.put_inner.ensures _ _ _ c.in-At.ensures c.branch-text.ensures
-
-pub subtree-returns-in-Bad : goal.subtree-returns-in-Bad
-subtree-returns-in-Bad t c =
-    let p = (goal.at.subtree-returns-in-Bad t c).After-put_inner in
-    subtree_no_list _ _ _ _ _ _ _ c.skip-i.ensures c.requires.3 (few p) (shallow p) c.if-i-text.false c.if-text-i-eq40.true _ _ c.put_inner.ensures _ c.in-Bad.ensures
+pub subtree-returns-in_err-g : goal.subtree-returns-in_err-g
+subtree-returns-in_err-g t c =
+    let p = (goal.at.subtree-returns-in_err-g t c).After-put_inner in
+    told-subtree (search rules) (subtree_no_list _ _ _ _ _ _ _ c.skip-i.ensures c.requires.3 (few p) (shallow p) c.if-i-text.false c.if-text-i-eq40.true _ _ c.put_inner.ensures _ c.in_err-g.ensures)
 
 pub subtree-returns-then-not-digit : goal.subtree-returns-then-not-digit
 subtree-returns-then-not-digit t c =
-    subtree_stray _ _ _ _ _ _ _ c.skip-i.ensures c.requires.3 c.if-i-text.false c.if-text-i-eq40.false (sym c.digit.ensures ∙ c.if-not-digit.true)
+    elim c.then-not-digit.branch [
+      | subtree-then-not-digit-via-then-not-digit w ↦ subtree_stray _ _ _ _ _ _ _ c.skip-i.ensures c.requires.3 c.if-i-text.false c.if-text-i-eq40.false (sym c.digit.ensures ∙ w.if-not-digit.true)
+      | subtree-then-not-digit-via-else-not-digit+then-count-eq-MOST_NODES-2 w ↦
+          subtree_many _ _ _ _ _ _ _ c.skip-i.ensures c.requires.3 c.if-i-text.false (sym c.digit.ensures ∙ w.if-not-digit.false) w.if-count-eq-MOST_NODES-2.true
+    ]
 
-pub subtree-returns-then-count-eq-MOST_NODES-2 : goal.subtree-returns-then-count-eq-MOST_NODES-2
-subtree-returns-then-count-eq-MOST_NODES-2 t c =
-    subtree_many _ _ _ _ _ _ _ c.skip-i.ensures c.requires.3 c.if-i-text.false (sym c.digit.ensures ∙ c.if-not-digit.false) c.if-count-eq-MOST_NODES-2.true
+pub subtree-returns : goal.subtree-returns
+subtree-returns t c =
+    subtree-number _ _ _ _ _ _ _ c.skip-i.ensures c.requires.3 (omega (arith, c.requires.2, c.if-count-eq-MOST_NODES-2.false)) _ _ _
+    c.in_ok-x.ensures c.put_leaf.ensures
+    (ap length c.put_leaf.ensures ∙ simp length-sets c.requires.3) c.branch-text-2.ensures
 
-pub subtree-returns-in-Value : goal.subtree-returns-in-Value
-subtree-returns-in-Value t c =
-    subtree-number _ _ _ _ _ _ _ c.skip-i.ensures c.requires.3 (omega (arith, c.requires.2, c.if-count-eq-MOST_NODES-2.false)) _ _ _ _
-    c.in-Value.ensures c.put_leaf.ensures
-    (ap length c.put_leaf.ensures ∙ simp length-sets c.requires.3) c.branch-text-in-Value.ensures
-
-pub subtree-returns-in-None : goal.subtree-returns-in-None
-subtree-returns-in-None t c =
-    subtree_no_number _ _ _ _ _ _ _ c.skip-i.ensures c.requires.3 (omega (arith, c.requires.2, c.if-count-eq-MOST_NODES-2.false)) _ c.in-None.ensures
+pub subtree-returns-in_err-x : goal.subtree-returns-in_err-x
+subtree-returns-in_err-x t c =
+    let few : c.args.count < most_nodes = omega (arith, c.requires.2, c.if-count-eq-MOST_NODES-2.false) in
+    told-subtree (search rules) (subtree_no_number _ _ _ _ _ _ _ c.skip-i.ensures c.requires.3 few _ c.in_err-x.ensures)

@@ -9,8 +9,8 @@ decreases-list l = 2 * (length l.text.now - l.at) + 1
 abbrev pub decreases-subtree : goal.decreases-subtree
 decreases-subtree l = 2 * (length l.text.now - l.at)
 
-abbrev pub invariant-list-loop-j : goal.invariant-list-loop-j
-invariant-list-loop-j l = Listing l.text l.at l.parent l.depth l.count l.initial.draft l.i l.n l.draft
+abbrev pub invariant-list-loop-g : goal.invariant-list-loop-g
+invariant-list-loop-g l = Listing l.text l.at l.parent l.depth l.count l.initial.draft l.i l.n l.draft
 
-abbrev pub decreases-list-loop-j : goal.decreases-list-loop-j
-decreases-list-loop-j l = length l.text - l.i
+abbrev pub decreases-list-loop-g : goal.decreases-list-loop-g
+decreases-list-loop-g l = length l.text - l.i

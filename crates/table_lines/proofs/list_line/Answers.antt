@@ -1,12 +1,13 @@
 -- The line of the answer and of what was lent. Assumes nothing.
+use Rattle.std.proofs.Common.{ap, ◌∙◌}
 use Rattle.collections.specs.Reads.{read_told}
-use Rattle.writing.proofs.Writing.{writes_as}
+use Rattle.writing.specs.Texts.{wrote}
 use Rattle.reply_text.proofs.Pieces.{barred-line}
 use Rattle.table_lines.specs.Lines.{list_line}
 use Rattle.table_lines.proofs.list_line.Goals as goal
 
 pub returns-clause-writes : goal.returns-clause-writes
 unfolding list_line
-returns-clause-writes c =
+returns-clause-writes g c =
     let a = c.list-a.ensures in
-    writes_as (barred-line read_told c.read.ensures a.is a.holds) c.put_barred.ensures
+    c.put_barred.ensures ∙ ap (wrote g.row.ROOM c.args.out.now) (barred-line read_told c.answer.ensures a.is a.holds)

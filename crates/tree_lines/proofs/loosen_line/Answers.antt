@@ -1,12 +1,13 @@
 -- The line of the answer and of what was lent. Assumes nothing.
+use Rattle.std.proofs.Common.{ap, ◌∙◌}
 use Rattle.loosening.specs.Loosens.{loosen_told}
-use Rattle.writing.proofs.Writing.{writes_as}
+use Rattle.writing.specs.Texts.{wrote}
 use Rattle.reply_text.proofs.Pieces.{lent-line}
 use Rattle.tree_lines.specs.Lines.{lent_text, loosen_line}
 use Rattle.tree_lines.proofs.loosen_line.Goals as goal
 
 pub returns-clause-writes : goal.returns-clause-writes
 unfolding loosen_line
-returns-clause-writes c =
+returns-clause-writes g c =
     let a = c.loosen-a.ensures in
-    writes_as (lent-line loosen_told lent_text c.loosen.ensures a.is a.holds) c.put_both.ensures
+    c.put_both.ensures ∙ ap (wrote g.row.ROOM c.args.out.now) (lent-line loosen_told lent_text c.answer.ensures a.is a.holds)

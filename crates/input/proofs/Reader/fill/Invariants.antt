@@ -1,0 +1,7 @@
+-- What of the reader was read stands in the front of `to`.
+use Rattle.std.proofs.Common.{take}
+use Rattle.input.specs.Inputs.{Took}
+use Rattle.input.proofs.Reader.fill.Given as goal
+
+abbrev pub invariant-loop-slot : goal.invariant-loop-slot
+invariant-loop-slot l = Took l.fn.self (take l.slot-index l.to) l.self

@@ -1,2 +1,0 @@
--- The laws of the table of calls.
-pub mod Shapes

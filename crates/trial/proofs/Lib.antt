@@ -1,2 +1,0 @@
--- The law of one step.
-mod OneCall

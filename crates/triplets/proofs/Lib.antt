@@ -1,2 +1,0 @@
--- The laws of the named form.
-pub mod Spelling

@@ -1,0 +1,5 @@
+-- The number has a digit fewer.
+use Rattle.writing.proofs.Text.+decimal.Given as goal
+
+abbrev pub decreases-decimal : goal.decreases-decimal
+decreases-decimal g l = l.n
