@@ -5,16 +5,14 @@ use Prim.Native.Nat.{ℕ, zero, suc, ◌+◌, ◌*◌, ◌<◌, ◌≤◌, ◌/�
 use native.Mathlib.Nat.{mul-div-le, mul-le-mul_left, le_trans}
 use native.Mathlib.Omega.{arith}
 use lib.ListN.{get_or, get_or-append, length}
-use Rattle.std.specs.Prelude.{IfOk, IfSome, None, Option, Some}
-use Rattle.std.specs.Option.{ok_or}
+use Rattle.std.specs.Prelude.{Some, true}
 use Rattle.input.proofs.Reading.{some_both, some_none, some_took, took_both}
-use Rattle.calls.specs.Calls.{CallBytes, CountBytes, FieldBytes, FieldsBytes, NumberBytes, Then, ReadCall, fields_of}
+use Rattle.calls.specs.Calls.{CallBytes, CountBytes, FieldBytes, FieldsBytes, NumberBytes, Then, ReadCall, read_fields}
 use Rattle.shapes.specs.Shapes.{shape}
-use Rattle.input.specs.Inputs.{Took, TookSome}
+use Rattle.input.specs.Inputs.{Took, TookSome, whole}
 use Rattle.shapes.specs.Numbers.{eight_at}
-use Rattle.calls.specs.declared.call.Call.{Call}
+use Rattle.calls.specs.declared.Call.{Call}
 use Rattle.calls.specs.declared.Fields.{Fields}
-use Rattle.calls.specs.declared.NoCall.{NoCall}
 use Rattle.shapes.specs.declared.Shape.{Shape}
 use Rattle.input.specs.declared.Reader.{Reader}
 
@@ -75,6 +73,5 @@ rest_both k s e = some_both λ t u p q. record {
 }
 
 -- the byte of a call, and what follows it
-pub call_read : {r q : Reader} {k : ℕ} (s : Reader) (f : Fields) (o : Option Call) (e : NoCall) → Took r (k ∷ []) q → IfSome o (λ c. TookSome (λ t. CallBytes c.byte c.numbers (fields_of c f) (k ∷ t)) q s) → IfOk (ok_or o e) (λ c. ReadCall r c s (fields_of c f))
-call_read s f (Some c) e p q = record { bytes = some_took (took_both p q.took) q.are }
-call_read s f None e p q = tt
+pub call_read : {r q : Reader} {k : ℕ} (s : Reader) (f : Fields) (c : Call) → whole r ≡ true → Took r (k ∷ []) q → TookSome (λ t. CallBytes c.byte c.numbers (read_fields c f) (k ∷ t)) q s → ReadCall r c s (read_fields c f)
+call_read s f c w p q = record { whole = w; bytes = some_took (took_both p q.took) q.are }

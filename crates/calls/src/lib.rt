@@ -1,23 +1,28 @@
 // How a call is written: its byte, then its numbers, then its fields.
 #![tactic(auto)]
 
-ghost use Rattle.std.specs.Prelude.{◌≡◌, [], ◌∷◌, ◌≤◌, length, take, IfOk, IfSome, Err};
-ghost use Rattle.input.specs.Inputs.{TookSome, buffered};
-ghost use Rattle.calls.specs.Calls.{CallBytes, CountBytes, FieldBytes, NumberBytes, ReadCall, fields_of};
+ghost use Rattle.std.specs.Prelude.{◌≡◌, [], ◌∷◌, ◌≤◌, length, take, IfOk, IfSome, OnErr, Err, false};
+ghost use Rattle.input.specs.Inputs.{TookSome, buffered, whole};
+ghost use Rattle.calls.specs.Calls.{CallBytes, CountBytes, FieldBytes, Inside, NumberBytes, ReadCall, SameBytes, read_fields};
 
-mod call;
-
-pub use call::{Call, ROOM};
 use input::Reader;
 use shapes::eight;
 
-// Where the fields of a call go.
+// A call that was read: its byte, its numbers, and how many bytes each field has.
+#[derive(Clone, Copy)]
+pub struct Call {
+    pub byte: u8,
+    pub numbers: [usize; 3],
+    pub lengths: [usize; 4],
+}
+
+// The lent bytes that the fields of a call go to.
 #[derive(Drop)]
-pub struct Fields {
-    pub first: [u8; ROOM],
-    pub second: [u8; ROOM],
-    pub third: [u8; ROOM],
-    pub fourth: [u8; ROOM],
+pub struct Fields<'a> {
+    pub first: &'a mut [u8],
+    pub second: &'a mut [u8],
+    pub third: &'a mut [u8],
+    pub fourth: &'a mut [u8],
 }
 
 // Why there is no call: the input ended before its byte, or the call was cut, or its byte is unknown.
@@ -61,14 +66,16 @@ fn read_field(reader: &mut Reader, item: usize, to: &mut [u8]) -> Option<usize>
 
 // Reads what follows the byte of a call.
 fn read_rest(reader: &mut Reader, byte: u8, fields: &mut Fields) -> Option<Call>
-    ensures { IfSome result (λ c. TookSome (λ t. CallBytes c.byte c.numbers (fields_of c fields.new) (byte ∷ t)) reader.old reader.new) }
+    ensures took { IfSome result (λ c. TookSome (λ t. CallBytes c.byte c.numbers (read_fields c fields.new) (byte ∷ t)) reader.old reader.new) }
+    ensures inside { IfSome result (λ c. Inside c fields.new.first.now fields.new.second.now fields.new.third.now fields.new.fourth.now) }
+    ensures same { SameBytes fields.old fields.new }
 {
     let shape = shapes::shape_of(byte)?;
     let numbers = read_numbers(reader, shape.numbers)?;
-    let first = read_field(reader, shape.items[0], &mut fields.first)?;
-    let second = read_field(reader, shape.items[1], &mut fields.second)?;
-    let third = read_field(reader, shape.items[2], &mut fields.third)?;
-    let fourth = read_field(reader, shape.items[3], &mut fields.fourth)?;
+    let first = read_field(reader, shape.items[0], fields.first)?;
+    let second = read_field(reader, shape.items[1], fields.second)?;
+    let third = read_field(reader, shape.items[2], fields.third)?;
+    let fourth = read_field(reader, shape.items[3], fields.fourth)?;
     Some(Call {
         byte,
         numbers,
@@ -76,11 +83,20 @@ fn read_rest(reader: &mut Reader, byte: u8, fields: &mut Fields) -> Option<Call>
     })
 }
 
-// Reads a call.
+// Reads a call. Where there is none, none is read from then on.
 pub fn read_call(reader: &mut Reader, fields: &mut Fields) -> Result<Call, NoCall>
-    ensures read_call { IfOk result (λ c. ReadCall reader.old c reader.new (fields_of c fields.new)) }
+    ensures read_call { IfOk result (λ c. ReadCall reader.old c reader.new (read_fields c fields.new)) }
+    ensures inside { IfOk result (λ c. Inside c fields.new.first.now fields.new.second.now fields.new.third.now fields.new.fourth.now) }
+    ensures same { SameBytes fields.old fields.new }
     ensures end { result ≡ Err NoCall.End → buffered reader.old ≡ [] }
+    ensures cut { OnErr result (whole reader.new ≡ false) }
 {
     let byte = reader.byte().ok_or(NoCall::End)?;
-    read_rest(reader, byte, fields).ok_or(NoCall::Cut)
+    match read_rest(reader, byte, fields) {
+        Some(call) => Ok(call),
+        None => {
+            reader.cut();
+            Err(NoCall::Cut)
+        }
+    }
 }

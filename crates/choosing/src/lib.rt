@@ -2,12 +2,13 @@
 #![tactic(auto)]
 
 ghost use Rattle.std.specs.Prelude.{◌≡◌, ◌≤◌, ◌/◌, length};
-ghost use Rattle.writing.specs.Texts.{wrote};
+ghost use Rattle.writing.specs.Pages.{wrote_on};
 ghost use Rattle.choosing.specs.Chosen.{call_line};
 
 use writing::Text;
 
 // What a call takes of the lent memory: its fields, each as long as it is, and where the sets of the fourth are laid out.
+#[derive(Drop)]
 pub struct Memory<'a> {
     pub first: &'a [u8],
     pub second: &'a mut [u8],
@@ -18,14 +19,8 @@ pub struct Memory<'a> {
 }
 
 // Makes the call with this byte, and writes its line.
-pub fn call_line<const ROOM: usize>(
-    out: &mut Text<ROOM>,
-    byte: u8,
-    n: usize,
-    m: usize,
-    memory: Memory,
-)
-    ensures { out.new ≡ wrote ROOM out.old (call_line byte n m memory.entry.first.now memory.entry.second.now memory.entry.third.now memory.entry.fourth.now) }
+pub fn call_line(out: &mut Text, byte: u8, n: usize, m: usize, memory: Memory)
+    ensures { out.new ≡ wrote_on out.old (call_line byte n m memory.entry.first.now memory.entry.second.now memory.entry.third.now memory.entry.fourth.now) }
 {
     let Memory {
         first,

@@ -21,6 +21,13 @@ pub struct Counts {
     pub set: u64,
 }
 
+// Where a tree's body stands: from start up to, and not with, end.
+#[derive(Clone, Copy)]
+pub struct Span {
+    pub start: usize,
+    pub end: usize,
+}
+
 // The number in the two bytes from p on, big-endian.
 fn length_at(b: &[u8], p: usize) -> usize
     requires { p + 2 ≤ length b.now }
@@ -29,18 +36,29 @@ fn length_at(b: &[u8], p: usize) -> usize
     usize::from(u16::from_be_bytes([b[p], b[p + 1]]))
 }
 
-// The body of tree k, where the trees up to it lie inside the bytes.
-pub fn body(b: &[u8], k: usize) -> &[u8]
+// The place of the body of tree k, where the trees up to it lie inside the bytes.
+pub fn body_span(b: &[u8], k: usize) -> Span
     requires { (j : ℕ) → j ≤ k → start b.now (suc j) ≤ length b.now }
-    ensures { result.now ≡ body_at b.now k }
+    ensures { (result.start ≡ start b.now k + 2) × (result.end ≡ start b.now (suc k)) }
 {
     let mut at = 3;
     for _ in 0..k {
         at += 2 + length_at(b, at);
     }
-    let from = at + 2;
-    let to = from + length_at(b, at);
-    &b[from..to]
+    Span {
+        start: at + 2,
+        end: at + 2 + length_at(b, at),
+    }
+}
+
+// The body of tree k, where the trees up to it lie inside the bytes.
+#[tactic(auto, unfolding(crate::specs::Layout::start))]
+pub fn body(b: &[u8], k: usize) -> &[u8]
+    requires { (j : ℕ) → j ≤ k → start b.now (suc j) ≤ length b.now }
+    ensures { result.now ≡ body_at b.now k }
+{
+    let Span { start, end } = body_span(b, k);
+    &b[start..end]
 }
 
 // Where the tree behind tree k starts, which itself starts at `at`.

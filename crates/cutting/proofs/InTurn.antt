@@ -22,8 +22,9 @@ use Rattle.groups.specs.Groups.{Groups}
 use Rattle.children.proofs.Left.{KidOf, Left, Opened, alone, every_kid, housed, left_end, left-next, left-start, opened, parted}
 use Rattle.children.specs.Children.{Gives}
 use Rattle.std.proofs.Common.{None, Some}
-use Rattle.writing.proofs.Writing.{writes, wrote_nothing}
-use Rattle.writing.specs.Texts.{decimal, wrote}
+use Rattle.writing.proofs.Writing.{writes, wrote_on_nothing}
+use Rattle.writing.specs.Pages.{Page, wrote_on}
+use Rattle.writing.specs.Texts.{decimal}
 use Rattle.rendering.specs.Texts.{children_text}
 use Rattle.cutting.specs.Descends.{Descends}
 use Rattle.cutting.specs.Texts.{cut_text, first_text}
@@ -34,26 +35,26 @@ abbrev pub text_at : Nodes → Species → ℕ → List ℕ
 text_at v U i = cut_text U (house (subtree v i))
 
 -- o was the room, and is d now, with some of the text of node i from `at` on; the sign m stands before the next child that is touched
-pub record Todo (v : Nodes) (U : Species) (i k : ℕ) (o d : List ℕ) (m rest : ℕ) : Type 0 where
+pub record Todo (v : Nodes) (U : Species) (i : ℕ) (o d : Page) (m rest : ℕ) : Type 0 where
   pub forest : Forest
   pub left : Left v i rest forest
   pub done : List ℕ
-  pub told : d ≡ wrote k o done
+  pub told : d ≡ wrote_on o done
   pub whole : done ++ children_text m (cut_f U forest) ≡ text_at v U i
 
 -- the next child is c: what is to do once it was written, where it is touched, and once it was passed
-pub record Next {v : Nodes} {U : Species} {i k : ℕ} {o d : List ℕ} {m rest : ℕ} (t : Todo v U i k o d m rest) (c rest' : ℕ) : Type 0 where
+pub record Next {v : Nodes} {U : Species} {i : ℕ} {o d : Page} {m rest : ℕ} (t : Todo v U i o d m rest) (c rest' : ℕ) : Type 0 where
   pub later : i < c
   pub within : c < v.count
-  pub touched : Touches U (subtree v c) → (d' d'' : List ℕ) → d' ≡ wrote k d (m ∷ []) → d'' ≡ wrote k d' (text_at v U c) → Todo v U i k o d'' 44 rest'
-  pub passed : (Touches U (subtree v c) → ⊥) → Todo v U i k o d m rest'
+  pub touched : Touches U (subtree v c) → (d' d'' : Page) → d' ≡ wrote_on d (m ∷ []) → d'' ≡ wrote_on d' (text_at v U c) → Todo v U i o d'' 44 rest'
+  pub passed : (Touches U (subtree v c) → ⊥) → Todo v U i o d m rest'
 
 module _ (v : Nodes) (g : Good 64 v) where
   module _ (U : Species) where
     house_touches : (i : ℕ) → Touches U (subtree v i) → Touches U (house (subtree v i))
     house_touches i t = (t.0, house-under (subtree v i) t.0 ∙ t.1, t.2)
 
-    module _ (groups : List ℕ) (q : Groups v groups) {i k : ℕ} {o d : List ℕ} {m rest : ℕ} (t : Todo v U i k o d m rest) where
+    module _ (groups : List ℕ) (q : Groups v groups) {i : ℕ} {o d : Page} {m rest : ℕ} (t : Todo v U i o d m rest) where
       -- the child that comes
       pub todo_next : (c rest' : ℕ) → Gives v groups i rest (Some c) rest' → Next t c rest'
       todo_next c rest' found =
@@ -86,10 +87,10 @@ module _ (v : Nodes) (g : Good 64 v) where
           }
 
       -- no child is left: a bracket closes the text
-      pub todo_end : (rest' : ℕ) → Gives v groups i rest None rest' → (d' : List ℕ) → d' ≡ wrote k d (41 ∷ []) → d' ≡ wrote k o (text_at v U i)
+      pub todo_end : (rest' : ℕ) → Gives v groups i rest None rest' → (d' : Page) → d' ≡ wrote_on d (41 ∷ []) → d' ≡ wrote_on o (text_at v U i)
       todo_end rest' over d' a =
           let whole = ap (λ (f : Forest). t.done ++ children_text m (cut_f U f)) (sym (left_end v g groups q t.left rest' over)) ∙ t.whole in
-          simp (a, t.told, writes) (ap (wrote k o) whole)
+          simp (a, t.told, writes) (ap (wrote_on o) whole)
 
     module _ {i r : ℕ} (d : Descends v U i r v.count) (touch : Touches U (subtree v i)) where
       -- where the search went down to has the same text
@@ -111,17 +112,17 @@ module _ (v : Nodes) (g : Good 64 v) where
           by (parted k t) = absurd (n k)
 
       -- nothing of a node with children was written yet
-      pub todo_start : (groups : List ℕ) → Groups v groups → v.species r ≡ none → (k : ℕ) (o : List ℕ) (rest : ℕ)
-          → rest ≡ cond (eqb (v.species r) none) (get_or groups r 0) 0 → Todo v U r k o o 40 rest
-      todo_start groups q n room o rest e = by (opened v g r d.within)
+      pub todo_start : (groups : List ℕ) → Groups v groups → v.species r ≡ none → (o : Page) (rest : ℕ)
+          → rest ≡ cond (eqb (v.species r) none) (get_or groups r 0) 0 → Todo v U r o o 40 rest
+      todo_start groups q n o rest e = by (opened v g r d.within)
         where
-          by : Opened v r → Todo v U r room o o 40 rest
+          by : Opened v r → Todo v U r o o 40 rest
           by (alone k c t) = absurd (k n)
           by (parted k t) = record {
             forest = _;
             left = left-start v g r d.within groups q (v.species r) rest refl e;
             done = [];
-            told = sym (wrote_nothing room o);
+            told = sym (wrote_on_nothing o);
             whole = sym (ap first_text (ap (λ (z : Tree). cut U (house z)) t ∙ cut_forks U (housed v (children v r)) (subst (λ (z : Tree). Touches U (house z)) t (house_touches r there))
                 (λ s m all. let (c, ch, es) = every_child (KidOf v r) s (housed v (children v r)) (every_kid v r (children v r) (is_child v r)) m in
                 d.parts c ch.within ch.later ch.parent (λ x p u. sym (house-under (subtree v c) x) ∙ ap (λ (z : Tree). under z x) (sym es)

@@ -7,11 +7,10 @@ ghost use Rattle.trees.specs.Cut.{Touches};
 ghost use Rattle.trees.specs.Trees.{house};
 ghost use Rattle.bodies.specs.Nodes.{nodes, most_nodes, Good};
 ghost use Rattle.bodies.specs.Draws.{subtree, tree_of};
-ghost use Rattle.writing.specs.Texts.{wrote};
+ghost use Rattle.writing.specs.Pages.{wrote_on};
 ghost use Rattle.cutting.specs.Descends.{Descends};
 ghost use Rattle.cutting.specs.Texts.{cut_text};
 
-use rendering::LONGEST;
 use writing::Text;
 
 // From node i down to the node that has all species of `set` under i, and no child that has them all.
@@ -30,35 +29,34 @@ fn descend(tree: groups::Grouped, i: usize, set: u64) -> usize
 }
 
 // Writes the text of the tree under node i, in house order, cut to the species of `set`.
-fn put(tree: groups::Grouped, i: usize, set: u64, draft: &mut Text<LONGEST>)
+fn put(tree: groups::Grouped, i: usize, set: u64, out: &mut Text)
     requires i_bound { i < (nodes tree.body.now).count }
     requires touches { Touches (has set) (subtree (nodes tree.body.now) i) }
-    ensures { draft.new ≡ wrote LONGEST draft.old (cut_text (has set) (house (subtree (nodes tree.entry.body.now) i))) }
+    ensures { out.new ≡ wrote_on out.old (cut_text (has set) (house (subtree (nodes tree.entry.body.now) i))) }
 {
     let top = descend(tree, i, set);
     let s = bodies::species(tree.body, top);
     if s != bodies::NONE {
-        draft.decimal(u64::from(s));
+        out.decimal(u64::from(s));
         return;
     }
     let mut mark = b'(';
     for c in children::in_order(tree, top) {
         if sets::meet(tree.groups[c], set) != 0 {
-            draft.push(mark);
-            put(tree, c, set, draft);
+            out.push(mark);
+            put(tree, c, set, out);
             mark = b',';
         }
     }
-    draft.push(b')');
+    out.push(b')');
 }
 
-// Writes a paper's tree cut to the species of `set`, of which it has one or more, with a semicolon last. It is written into a draft first: a call of itself is
-// proved for one size of room only.
-pub fn put_cut<const ROOM: usize>(body: &[u8], set: u64, out: &mut Text<ROOM>)
+// Writes a paper's tree cut to the species of `set`, of which it has one or more, with a semicolon last.
+pub fn put_cut(body: &[u8], set: u64, out: &mut Text)
     requires good { Good 64 (nodes body.now) }
     requires count_nonzero { (0 < (nodes body.now).count) × ((nodes body.now).count ≤ most_nodes) }
     requires touches { Touches (has set) (tree_of body.now) }
-    ensures { out.new ≡ wrote ROOM out.old (cut_text (has set) (house (tree_of body.now)) ++ (59 ∷ [])) }
+    ensures { out.new ≡ wrote_on out.old (cut_text (has set) (house (tree_of body.now)) ++ (59 ∷ [])) }
 {
     let mut groups = [0; bodies::MOST_NODES];
     groups::groups(body, &mut groups);
@@ -66,8 +64,6 @@ pub fn put_cut<const ROOM: usize>(body: &[u8], set: u64, out: &mut Text<ROOM>)
         body,
         groups: &groups,
     };
-    let mut draft = Text::new();
-    put(tree, 0, set, &mut draft);
-    draft.push(b';');
-    out.word(draft.as_slice());
+    put(tree, 0, set, out);
+    out.push(b';');
 }

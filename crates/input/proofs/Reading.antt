@@ -1,4 +1,5 @@
 -- Bytes are read one after the other. Assumes nothing.
+use mathlib.Core.Bool.{Bool, false, true}
 use mathlib.Core.List.{List, [], ◌∷◌, ◌++◌, append_assoc, append-nil}
 use mathlib.Core.Logic.{◌⊎◌, inl, inr}
 use mathlib.Core.Path.{◌∙◌, ◌≡◌, ap, refl, subst, sym}
@@ -7,12 +8,12 @@ use native.Mathlib.Numerals.{add-one}
 use native.Mathlib.Omega.{arith}
 use lib.ListN.{drop, get_or, length, take}
 use lib.Seq.{drop-cons}
-use Rattle.input.specs.Inputs.{Follows, Took, TookSome, buffered}
+use Rattle.input.specs.Inputs.{Follows, Took, TookSome, buffered, whole}
 use Rattle.input.specs.declared.Reader.{Reader}
 
 -- nothing was read
 pub took_none : (r : Reader) → Took r [] r
-took_none r = record { follows = record { came = []; same = append-nil _ } }
+took_none r = record { uncut = refl; follows = record { came = []; same = append-nil _ } }
 
 -- what follows, and what follows that
 follows_both : {r s t y z : List ℕ} → Follows r s y → Follows y t z → Follows r (s ++ t) z
@@ -24,7 +25,7 @@ follows_both {r} {s} {t} {y} {z} f g =
 
 -- first s was read, and then t
 pub took_both : {i j k : Reader} {s t : List ℕ} → Took i s j → Took j t k → Took i (s ++ t) k
-took_both p q = record { follows = follows_both p.follows q.follows }
+took_both p q = record { uncut = q.uncut ∙ p.uncut; follows = follows_both p.follows q.follows }
 
 -- where nothing is left, nothing stands in the buffer
 pub none_left : (r : Reader) → r.at ≡ r.end → buffered r ≡ []
@@ -38,14 +39,14 @@ front b a e h l =
     rw (n, drop-cons b a 0 (omega arith), add-one)
 
 -- the next byte of the buffer
-pub took_next : (r q : Reader) → r.at < r.end → q.buffer ≡ r.buffer → q.at ≡ r.at + 1 → q.end ≡ r.end → Took r (get_or r.buffer r.at 0 ∷ []) q
+pub took_next : (r q : Reader) → r.at < r.end → q.buffer.now ≡ r.buffer.now → q.at ≡ r.at + 1 → q.end ≡ r.end → q.whole ≡ r.whole → Took r (get_or r.buffer.now r.at 0 ∷ []) q
 unfolding buffered
-took_next r q h b a e = record { follows = record { came = []; same = append-nil _ ∙ front r.buffer r.at r.end h r.in_buffer.1 ∙ rw (b, a, e) refl } }
+took_next r q h b a e w = record { uncut = w; follows = record { came = []; same = append-nil _ ∙ front r.buffer.now r.at r.end h r.in_buffer.1 ∙ rw (b, a, e) refl } }
 
 -- what was read was read of the reader as it was, or of a new buffer, where the old one was used up
-pub took_from : {r q s : Reader} {t : List ℕ} → (q ≡ r) ⊎ (r.at ≡ r.end) → Took q t s → Took r t s
+pub took_from : {r q s : Reader} {t : List ℕ} → (q ≡ r) ⊎ ((r.at ≡ r.end) × (whole q ≡ whole r)) → Took q t s → Took r t s
 took_from {s = s} {t} (inl e) p = subst (λ (x : Reader). Took x t s) e p
-took_from {r} {q} (inr e) p = record { follows = record { came = buffered q ++ p.follows.came; same = rw (none_left r e) p.follows.same } }
+took_from {r} {q} (inr (e, w)) p = record { uncut = p.uncut ∙ w; follows = record { came = buffered q ++ p.follows.came; same = rw (none_left r e) p.follows.same } }
 
 -- what was read is known
 pub some_took : {P : List ℕ → Type 0} {r q : Reader} {t : List ℕ} → Took r t q → P t → TookSome P r q
@@ -58,3 +59,11 @@ some_none r p = some_took (took_none r) p
 -- first some were read, and then others
 pub some_both : {P Q R : List ℕ → Type 0} {i j k : Reader} → ((s t : List ℕ) → P s → Q t → R (s ++ t)) → TookSome P i j → TookSome Q j k → TookSome R i k
 some_both f p q = some_took (took_both p.took q.took) (f p.bytes q.bytes p.are q.are)
+
+-- where something is left in the buffer, nothing was cut
+pub whole_here : (r : Reader) → r.at < r.end → whole r ≡ true
+whole_here r h = by r.whole refl
+  where
+    by : (b : Bool) → r.whole ≡ b → r.whole ≡ true
+    by true e = e
+    by false e = let z = r.cut e in absurd (omega arith)

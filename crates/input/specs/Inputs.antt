@@ -1,10 +1,14 @@
 -- What is still to be read of the input, and what was read of it.
-use Rattle.std.specs.Prelude.{List, ◌++◌, ◌≡◌, ℕ, ◌-◌, drop, take}
+use Rattle.std.specs.Prelude.{Bool, List, ◌++◌, ◌≡◌, ℕ, ◌-◌, drop, take}
 use Rattle.input.specs.declared.Reader.{Reader}
 
 -- the bytes in the buffer of the reader r that are still to be read
 unfoldable pub buffered : Reader → List ℕ
-buffered r = take (r.end - r.at) (drop r.at r.buffer)
+buffered r = take (r.end - r.at) (drop r.at r.buffer.now)
+
+-- all that was asked of the reader r was there
+abbrev pub whole : Reader → Bool
+whole r = r.whole
 
 -- the bytes s, and some that came after them, are the bytes t and then the bytes z: none of s is lost, doubled or out of its order. Of those that came
 -- after them nothing is said: the contract of `read` does not say which they are.
@@ -12,8 +16,9 @@ pub record Follows (s t z : List ℕ) : Type 0 where
   pub came : List ℕ
   pub same : s ++ came ≡ t ++ z
 
--- of the reader r the bytes t were read; it is r' now
+-- of the reader r the bytes t were read; it is r' now, and was not cut by this
 pub record Took (r : Reader) (t : List ℕ) (r' : Reader) : Type 0 where
+  pub uncut : whole r' ≡ whole r
   pub follows : Follows (buffered r) t (buffered r')
 
 -- so were some bytes of which P is true

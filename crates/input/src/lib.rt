@@ -1,51 +1,70 @@
 // What has come of standard input, byte after byte.
 #![tactic(auto)]
 
-ghost use Rattle.std.specs.Prelude.{◌≡◌, ◌<◌, [], ◌∷◌, ◌≤◌, length, IfSome, MatchOption};
+ghost use Rattle.std.specs.Prelude.{◌≡◌, ◌<◌, [], ◌∷◌, ◌≤◌, length, true, false, MatchOption};
 
 use std::io::{Read, Stdin};
 
-// How many bytes are read at once, at most.
-const SIZE: usize = 65536;
-
-// The bytes of the buffer from `at` up to `end` are still to be read, and then what is still to come.
+// The bytes of the lent buffer from `at` up to `end` are still to be read, and then what is still to come. `whole` says that all that was asked for was there;
+// once it was not, nothing more is read.
 #[derive(Drop)]
-pub struct Reader {
+pub struct Reader<'a> {
     stdin: Stdin,
-    buffer: [u8; SIZE],
+    buffer: &'a mut [u8],
     at: usize,
     end: usize,
-    ghost in_buffer: { (at ≤ end) × (end ≤ length buffer) },
+    whole: bool,
+    ghost in_buffer: { (at ≤ end) × (end ≤ length buffer.now) },
+    ghost cut: { whole ≡ false → at ≡ end },
 }
 
-impl Reader {
-    ghost use Rattle.input.specs.Inputs.{Took, buffered};
+impl<'a> Reader<'a> {
+    ghost use Rattle.input.specs.Inputs.{Took, buffered, whole};
 
     // Before anything was read.
-    pub fn new(stdin: Stdin) -> Self
-        ensures { buffered result ≡ [] }
+    pub fn new(stdin: Stdin, buffer: &'a mut [u8]) -> Reader<'a>
+        ensures buffered { buffered result ≡ [] }
+        ensures whole { whole result ≡ true }
     {
         Reader {
             stdin,
-            buffer: [0; SIZE],
+            buffer,
             at: 0,
             end: 0,
+            whole: true,
         }
     }
 
-    // Reads what has come of the input, and waits only where nothing has: whether anything stands in the buffer then.
-    fn refill(&mut self) -> Option<()>
-        ensures { IfSome result (λ _. (self.new.at ≡ 0) × (0 < self.new.end)) }
+    // Where something that was asked for was not there.
+    pub fn cut(&mut self)
+        ensures { (self.new.at ≡ 0) × (self.new.end ≡ 0) × (whole self.new ≡ false) }
     {
         self.at = 0;
         self.end = 0;
-        self.end = self.stdin.read(&mut self.buffer).ok()?;
-        if self.end == 0 { None } else { Some(()) }
+        self.whole = false;
     }
 
-    // Reads a byte; where the buffer is used up, it is read anew. There is none where the input has ended.
+    // Reads what has come of the input, and waits only where nothing has: whether anything stands in the buffer then. Where something was not there, nothing is read.
+    fn refill(&mut self) -> Option<()>
+        ensures { MatchOption result (whole self.new ≡ false) (λ _. (self.new.at ≡ 0) × (0 < self.new.end) × (whole self.old ≡ true) × (whole self.new ≡ true)) }
+    {
+        let whole = self.whole;
+        self.cut();
+        if !whole {
+            return None;
+        }
+        let end = self.stdin.read(self.buffer).ok()?;
+        if end == 0 {
+            return None;
+        }
+        self.end = end;
+        self.whole = true;
+        Some(())
+    }
+
+    // Reads a byte; where the buffer is used up, it is read anew. There is none where the input has ended, or something was not there before.
     pub fn byte(&mut self) -> Option<u8>
-        ensures { MatchOption result (buffered self.old ≡ []) (λ x. Took self.old (x ∷ []) self.new) }
+        ensures { MatchOption result ((buffered self.old ≡ []) × (whole self.new ≡ false)) (λ x. (whole self.old ≡ true) × Took self.old (x ∷ []) self.new) }
     {
         if self.at == self.end {
             self.refill()?;
@@ -57,7 +76,7 @@ impl Reader {
 
     // Reads as many bytes as `to` has.
     pub fn fill(&mut self, to: &mut [u8]) -> Option<()>
-        ensures { IfSome result (λ _. Took self.old to.new self.new) }
+        ensures { MatchOption result (whole self.new ≡ false) (λ _. Took self.old to.new self.new) }
     {
         for slot in to.iter_mut() {
             *slot = self.byte()?;

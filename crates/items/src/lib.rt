@@ -4,7 +4,7 @@
 ghost use Rattle.std.specs.Prelude.{◌≡◌, ◌≤◌, ◌/◌, length};
 ghost use Rattle.table_lines.specs.Lines.{enter_line};
 ghost use Rattle.tree_lines.specs.Lines.{loosen_line};
-ghost use Rattle.writing.specs.Texts.{wrote};
+ghost use Rattle.writing.specs.Pages.{wrote_on};
 ghost use Rattle.items.specs.Items.{records_of, sets_of};
 
 use writing::Text;
@@ -17,8 +17,8 @@ fn records(b: &[u8]) -> &[[u8; 3]]
 }
 
 // Enters the records that the bytes b are.
-pub fn enter_line<const ROOM: usize>(out: &mut Text<ROOM>, n: usize, b: &[u8], t: &mut [u8])
-    ensures { out.new ≡ wrote ROOM out.old (enter_line n (records_of b.now) t.old) }
+pub fn enter_line(out: &mut Text, n: usize, b: &[u8], t: &mut [u8])
+    ensures { out.new ≡ wrote_on out.old (enter_line n (records_of b.now) t.old) }
 {
     table_lines::enter_line(out, n, records(b), t);
 }
@@ -34,8 +34,8 @@ fn gather(b: &[u8], list: &mut [u64])
 }
 
 // Loosens a tree, with a list that holds the sets that the bytes b are.
-pub fn loosen_line<const ROOM: usize>(
-    out: &mut Text<ROOM>,
+pub fn loosen_line(
+    out: &mut Text,
     n: usize,
     t: &[u8],
     body: &[u8],
@@ -44,7 +44,7 @@ pub fn loosen_line<const ROOM: usize>(
     list: &mut [u64],
 )
     requires { length b.now / 8 ≤ length list.old }
-    ensures { out.new ≡ wrote ROOM out.old (loosen_line n t.now body.now room.old (sets_of b.now)) }
+    ensures { out.new ≡ wrote_on out.old (loosen_line n t.now body.now room.old (sets_of b.now)) }
 {
     let sets = &mut list[..b.len() / 8];
     gather(b, sets);

@@ -5,24 +5,24 @@ ghost use Rattle.std.specs.Prelude.{◌≡◌, ◌<◌};
 ghost use Rattle.answers.specs.Inputs.{Body};
 ghost use Rattle.collections.specs.Collection.{Collection};
 ghost use Rattle.collections.specs.Layout.{species, trees};
-ghost use Rattle.writing.specs.Texts.{wrote};
+ghost use Rattle.writing.specs.Pages.{wrote_on};
 ghost use Rattle.papers_text.specs.Lines.{numbered, papers_text, side_line, sides_text};
 
 use writing::Text;
 
 // Writes which paper it is, tree k of the collection.
-fn put_number<const ROOM: usize>(out: &mut Text<ROOM>, k: usize)
+fn put_number(out: &mut Text, k: usize)
     requires { k < 16 }
-    ensures { out.new ≡ wrote ROOM out.old (numbered k) }
+    ensures { out.new ≡ wrote_on out.old (numbered k) }
 {
     out.word(b"paper ");
     out.decimal(k as u64 + 1);
 }
 
 // Writes a line for each paper of a collection of n species: its tree.
-pub fn put_papers<const ROOM: usize>(out: &mut Text<ROOM>, n: usize, c: &[u8], count: usize)
+pub fn put_papers(out: &mut Text, n: usize, c: &[u8], count: usize)
     requires { Collection c.now × (n ≡ species c.now) × (count ≡ trees c.now) }
-    ensures { out.new ≡ wrote ROOM out.old (papers_text c.now count) }
+    ensures { out.new ≡ wrote_on out.old (papers_text c.now count) }
 {
     for k in 0..count {
         put_number(out, k);
@@ -31,9 +31,9 @@ pub fn put_papers<const ROOM: usize>(out: &mut Text<ROOM>, n: usize, c: &[u8], c
 }
 
 // Writes the line of one paper, tree k of the collection: its tree cut to the species of `set`.
-fn put_side<const ROOM: usize>(out: &mut Text<ROOM>, set: u64, k: usize, body: &[u8])
+fn put_side(out: &mut Text, set: u64, k: usize, body: &[u8])
     requires { (k < 16) × Body 64 body.now }
-    ensures { out.new ≡ wrote ROOM out.old (side_line set k body.now) }
+    ensures { out.new ≡ wrote_on out.old (side_line set k body.now) }
 {
     let mut groups = [0; bodies::MOST_NODES];
     groups::groups(body, &mut groups);
@@ -48,9 +48,9 @@ fn put_side<const ROOM: usize>(out: &mut Text<ROOM>, set: u64, k: usize, body: &
 }
 
 // Writes a line for each paper of a collection: what it says of the species of `set`.
-pub fn put_sides<const ROOM: usize>(out: &mut Text<ROOM>, set: u64, c: &[u8], count: usize)
+pub fn put_sides(out: &mut Text, set: u64, c: &[u8], count: usize)
     requires { Collection c.now × (count ≡ trees c.now) }
-    ensures { out.new ≡ wrote ROOM out.old (sides_text set c.now count) }
+    ensures { out.new ≡ wrote_on out.old (sides_text set c.now count) }
 {
     for k in 0..count {
         put_side(out, set, k, collections::body(c, k));

@@ -15,7 +15,8 @@ fn main() {
     let n = io::read_full(0, &mut bytes);
     let mut store = [0u8; collections::LONGEST];
     let mut table = [0u8; 41664];
-    let mut text = writing::Text::new();
+    let mut lent = [0u8; pull_text::MOST_TEXT];
+    let mut text = writing::Text::new(&mut lent);
     pull_text::pull(&bytes[..n], &mut store, &mut table, &mut text);
     print(&bytes, n, text.as_slice());
 }

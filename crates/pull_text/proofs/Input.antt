@@ -20,8 +20,8 @@ use Rattle.places.proofs.Answers.{answer_inside}
 use Rattle.places.specs.Causes.{cause_of}
 use Rattle.places.specs.NodePlaces.{place_in}
 use Rattle.refused_text.specs.Refused.{text_in}
-use Rattle.writing.proofs.Writing.{wrote_alone}
-use Rattle.writing.specs.Texts.{wrote}
+use Rattle.writing.proofs.Writing.{whole_on}
+use Rattle.writing.specs.Pages.{Page, wrote_on}
 use Rattle.pull_text.specs.Pull.{collection_text, input_text, pull_text}
 use Rattle.pull_text.proofs.Lengths.{pull_few}
 use Rattle.papers.specs.declared.Unread.TheVariants.{Bad, Long}
@@ -71,5 +71,6 @@ module _ (w : List ℕ) where
           )
 
   -- there is room for the whole text
-  pub pull_written : (o v o' : List ℕ) → o ≡ [] → v ≡ pull_text w → o' ≡ wrote 40960 o v → o' ≡ pull_text w
-  pull_written o v o' n e x = x ∙ ap (λ (z : List ℕ). wrote 40960 z v) n ∙ wrote_alone 40960 v (omega (arith, ap length e, pull_few w)) ∙ e
+  pub pull_written : (p o o' : Page) (v : List ℕ) → 40960 ≤ p.room → o ≡ record p { text = [] } → v ≡ pull_text w → o' ≡ wrote_on o v → o' ≡ record p { text = pull_text w }
+  pull_written p o o' v r n e x =
+      x ∙ ap (λ (z : Page). wrote_on z v) n ∙ whole_on p v (omega (arith, r, ap length e, pull_few w)) ∙ ap (λ (t : List ℕ). record p { text = t }) e

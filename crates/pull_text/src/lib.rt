@@ -4,7 +4,7 @@
 ghost use Rattle.std.specs.Prelude.{◌≡◌, ◌≤◌, length, take};
 ghost use Rattle.collections.specs.Collection.{Collection};
 ghost use Rattle.collections.specs.Layout.{longest_collection, species, trees};
-ghost use Rattle.writing.specs.Texts.{wrote};
+ghost use Rattle.writing.specs.Pages.{wrote_on};
 ghost use Rattle.pull_text.specs.Pull.{collection_text, pull_text, story_text};
 
 use papers::Unread;
@@ -14,17 +14,10 @@ use writing::Text;
 pub const MOST_TEXT: usize = 40960;
 
 // Lists a collection that can be read, and goes on with its table, over the set that occurs.
-fn put_story<const ROOM: usize>(
-    out: &mut Text<ROOM>,
-    c: &[u8],
-    count: usize,
-    n: usize,
-    set: u64,
-    table: &mut [u8],
-)
+fn put_story(out: &mut Text, c: &[u8], count: usize, n: usize, set: u64, table: &mut [u8])
     requires table_len { length table.old ≡ 41664 }
     requires collection { Collection c.now × (count ≡ trees c.now) × (n ≡ species c.now) }
-    ensures { out.new ≡ wrote ROOM out.old (story_text c.now n set) }
+    ensures { out.new ≡ wrote_on out.old (story_text c.now n set) }
 {
     papers_text::put_papers(out, n, c, count);
     let k = triples::count(n);
@@ -33,14 +26,9 @@ fn put_story<const ROOM: usize>(
 }
 
 // Reads what was bundled, the first `end` bytes of the store, and writes what `pull` prints of it.
-fn put_collection<const ROOM: usize>(
-    out: &mut Text<ROOM>,
-    store: &[u8],
-    end: usize,
-    table: &mut [u8],
-)
+fn put_collection(out: &mut Text, store: &[u8], end: usize, table: &mut [u8])
     requires { (end ≤ length store.now) × (length table.old ≡ 41664) }
-    ensures { out.new ≡ wrote ROOM out.old (collection_text (take end store.now)) }
+    ensures { out.new ≡ wrote_on out.old (collection_text (take end store.now)) }
 {
     let c = &store[..end];
     match collections::read(c) {
@@ -49,15 +37,15 @@ fn put_collection<const ROOM: usize>(
     }
 }
 
-// Writes what `pull` prints of its input. What store, table and text held does not matter.
+// Writes what `pull` prints of its input, where there is room for any. What store, table and text held does not matter.
 pub fn pull(
     input: &[u8],
     store: &mut [u8; collections::LONGEST],
     table: &mut [u8; 41664],
-    out: &mut Text<MOST_TEXT>,
+    out: &mut Text,
 )
-    requires { (length store.old ≡ longest_collection) × (length table.old ≡ 41664) }
-    ensures { out.new ≡ pull_text input.now }
+    requires { (length store.old ≡ longest_collection) × (length table.old ≡ 41664) × (MOST_TEXT ≤ out.old.room) }
+    ensures { out.new ≡ record out.old { text = pull_text input.now } }
 {
     out.clear();
     match papers::read(input, store) {

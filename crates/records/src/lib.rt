@@ -24,7 +24,7 @@ impl Record for [u8; 3] {
 }
 
 // Do three numbers repeat a species, or have one not below n?
-fn bad(n: usize, a: usize, b: usize, c: usize) -> bool
+pub fn bad(n: usize, a: usize, b: usize, c: usize) -> bool
     ensures { result ≡ bad n a b c }
 {
     if a == b || a == c || b == c {
@@ -51,7 +51,7 @@ pub fn first_bad<R: Record>(n: usize, records: &[R]) -> Option<usize>
 }
 
 // A set, and three species with it.
-fn gather(s: u64, a: usize, b: usize, c: usize) -> u64
+pub fn gather(s: u64, a: usize, b: usize, c: usize) -> u64
     requires { (a < 64) × (b < 64) × (c < 64) }
     ensures { result ≡ union s (number 64 (in_record (a ∷ (b ∷ (c ∷ []))))) }
 {

@@ -45,21 +45,26 @@ impl From<bodies::Broken> for Refusal {
     }
 }
 
-// Up to four numbers, one after the other.
-#[derive(Drop)]
+// Up to four numbers, one after the other, and zeros behind them.
+#[derive(Clone, Copy)]
 pub struct Values {
     held: [usize; 4],
     count: usize,
 }
 
 impl Model for Values {
-    ghost use Rattle.std.specs.Prelude.{ℕ, List, ◌≤◌, take};
+    ghost use Rattle.std.specs.Prelude.{ℕ, List, length, take};
+    ghost use Rattle.refusals.specs.Held.{Holds, with_zeros};
 
     ghost Value = { List ℕ };
 
     ghost view = { λ v. take v.count v.held };
 
-    ghost invariant = { λ v. v.count ≤ 4 };
+    ghost invariant = { λ v. Holds v.held v.count };
+
+    ghost inverse = { λ l. record { held = with_zeros l; count = length l } };
+
+    ghost inverse_ok = { λ v h i. record { held = h.whole i; count = h.long i } };
 }
 
 impl Values {
@@ -94,7 +99,7 @@ impl Values {
 }
 
 // A number, the values that are returned with it, and the rule that is broken, if one is.
-#[derive(Drop)]
+#[derive(Clone, Copy)]
 pub struct Reply {
     pub number: usize,
     pub values: Values,

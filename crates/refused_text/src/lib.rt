@@ -2,7 +2,8 @@
 #![tactic(auto, using(writing::proofs::Writing::writes))]
 
 ghost use Rattle.std.specs.Prelude.{◌≡◌, ◌++◌, ◌-◌, ◌≤◌, length};
-ghost use Rattle.writing.specs.Texts.{decimal, wrote};
+ghost use Rattle.writing.specs.Pages.{wrote_on};
+ghost use Rattle.writing.specs.Texts.{decimal};
 ghost use Rattle.places.specs.Causes.{cause_of};
 ghost use Rattle.places.specs.NodePlaces.{place_in};
 ghost use Rattle.refused_text.specs.Refused.{byte_text, found, wrong_text, broken_text, what_text, where_text, text_in, refused_line};
@@ -13,16 +14,16 @@ use writing::Text;
 const LONGEST: usize = 4096;
 
 // Writes a word and a number.
-fn put_counted<const ROOM: usize>(out: &mut Text<ROOM>, w: &[u8], n: u64)
-    ensures { out.new ≡ wrote ROOM out.old (w.now ++ decimal n) }
+fn put_counted(out: &mut Text, w: &[u8], n: u64)
+    ensures { out.new ≡ wrote_on out.old (w.now ++ decimal n) }
 {
     out.word(w);
     out.decimal(n);
 }
 
 // Writes a byte, so that it can be seen.
-fn put_byte<const ROOM: usize>(out: &mut Text<ROOM>, b: u8)
-    ensures { out.new ≡ wrote ROOM out.old (byte_text b) }
+fn put_byte(out: &mut Text, b: u8)
+    ensures { out.new ≡ wrote_on out.old (byte_text b) }
 {
     if numerals::blank(b) {
         out.word(b"a blank");
@@ -34,9 +35,9 @@ fn put_byte<const ROOM: usize>(out: &mut Text<ROOM>, b: u8)
 }
 
 // Writes what stands at place q of the text.
-fn put_found<const ROOM: usize>(out: &mut Text<ROOM>, text: &[u8], q: usize)
+fn put_found(out: &mut Text, text: &[u8], q: usize)
     requires { q ≤ length text.now }
-    ensures { out.new ≡ wrote ROOM out.old (found text.now q) }
+    ensures { out.new ≡ wrote_on out.old (found text.now q) }
 {
     match text.get(q) {
         Some(b) => put_byte(out, *b),
@@ -45,9 +46,9 @@ fn put_found<const ROOM: usize>(out: &mut Text<ROOM>, text: &[u8], q: usize)
 }
 
 // Writes what is wrong at place q of the text.
-fn put_wrong<const ROOM: usize>(out: &mut Text<ROOM>, text: &[u8], q: usize)
+fn put_wrong(out: &mut Text, text: &[u8], q: usize)
     requires { q ≤ length text.now }
-    ensures { out.new ≡ wrote ROOM out.old (wrong_text text.now q) }
+    ensures { out.new ≡ wrote_on out.old (wrong_text text.now q) }
 {
     if q >= LONGEST {
         out.word(b"a text has at most 4096 bytes");
@@ -60,8 +61,8 @@ fn put_wrong<const ROOM: usize>(out: &mut Text<ROOM>, text: &[u8], q: usize)
 }
 
 // Writes which rule the tree of a text breaks.
-fn put_broken<const ROOM: usize>(out: &mut Text<ROOM>, f: bodies::Fault)
-    ensures { out.new ≡ wrote ROOM out.old (broken_text f) }
+fn put_broken(out: &mut Text, f: bodies::Fault)
+    ensures { out.new ≡ wrote_on out.old (broken_text f) }
 {
     match f {
         bodies::Fault::BadParent(_) => out.word(b"this is no tree"),
@@ -75,9 +76,9 @@ fn put_broken<const ROOM: usize>(out: &mut Text<ROOM>, f: bodies::Fault)
 }
 
 // Writes why the text is refused.
-fn put_what<const ROOM: usize>(out: &mut Text<ROOM>, text: &[u8], c: places::Cause)
+fn put_what(out: &mut Text, text: &[u8], c: places::Cause)
     requires { place_in text.now c ≤ length text.now }
-    ensures { out.new ≡ wrote ROOM out.old (what_text text.now c) }
+    ensures { out.new ≡ wrote_on out.old (what_text text.now c) }
 {
     match c {
         places::Cause::AtPlace(q) => put_wrong(out, text, q),
@@ -87,8 +88,8 @@ fn put_what<const ROOM: usize>(out: &mut Text<ROOM>, text: &[u8], c: places::Cau
 }
 
 // Writes the paper's number and the place.
-fn put_where<const ROOM: usize>(out: &mut Text<ROOM>, paper: usize, x: places::LineColumn)
-    ensures { out.new ≡ wrote ROOM out.old (where_text paper x) }
+fn put_where(out: &mut Text, paper: usize, x: places::LineColumn)
+    ensures { out.new ≡ wrote_on out.old (where_text paper x) }
 {
     put_counted(out, b"refused: paper ", paper as u64);
     put_counted(out, b", line ", x.line as u64);
@@ -98,8 +99,8 @@ fn put_where<const ROOM: usize>(out: &mut Text<ROOM>, paper: usize, x: places::L
 
 // Writes the line of a text that is refused: paper number `paper`, the bytes of the input from `start` up to `end`.
 #[tactic(auto, using(writing::proofs::Writing::writes), unfolding(crate::specs::Refused::refused_line))]
-pub fn put_refused<const ROOM: usize>(
-    out: &mut Text<ROOM>,
+pub fn put_refused(
+    out: &mut Text,
     input: &[u8],
     paper: usize,
     start: usize,
@@ -108,7 +109,7 @@ pub fn put_refused<const ROOM: usize>(
 )
     requires start_le_end { (start ≤ end) × (end ≤ length input.now) × (end ≤ 65536) }
     requires why_bound { place_in (text_in input.now start end) (cause_of why) ≤ end - start }
-    ensures { out.new ≡ wrote ROOM out.old (refused_line input.now paper start end why) }
+    ensures { out.new ≡ wrote_on out.old (refused_line input.now paper start end why) }
 {
     let text = &input[start..end];
     let c = places::cause_of(why);

@@ -13,30 +13,31 @@ use Rattle.groups.specs.Groups.{Groups}
 use Rattle.std.proofs.Common.{None, Some}
 use Rattle.children.specs.Children.{Gives}
 use Rattle.children.proofs.Left.{Left, Opened, alone, left_end, left-next, left-start, opened, parted}
-use Rattle.writing.proofs.Writing.{writes, wrote_nothing}
-use Rattle.writing.specs.Texts.{decimal, wrote}
+use Rattle.writing.proofs.Writing.{writes, wrote_on_nothing}
+use Rattle.writing.specs.Pages.{Page, wrote_on}
+use Rattle.writing.specs.Texts.{decimal}
 use Rattle.rendering.specs.Texts.{children_text, subtree_text}
 
 -- the text of the tree under node i
 abbrev pub text_at : Nodes → ℕ → List ℕ
 text_at v i = subtree_text (house (subtree v i))
 
--- o was the draft, with room for k bytes, and is d now, with some of the text of node i behind it; the sign m stands before the next child
-pub record Todo (v : Nodes) (i k : ℕ) (o d : List ℕ) (m rest : ℕ) : Type 0 where
+-- o was the draft, and is d now, with some of the text of node i behind it; the sign m stands before the next child
+pub record Todo (v : Nodes) (i : ℕ) (o d : Page) (m rest : ℕ) : Type 0 where
   pub forest : Forest
   pub left : Left v i rest forest
   pub done : List ℕ
-  pub told : d ≡ wrote k o done
+  pub told : d ≡ wrote_on o done
   pub whole : done ++ children_text m forest ≡ text_at v i
 
 -- the next child is c, and what is to do once it was written
-pub record Next {v : Nodes} {i k : ℕ} {o d : List ℕ} {m rest : ℕ} (t : Todo v i k o d m rest) (c rest' : ℕ) : Type 0 where
+pub record Next {v : Nodes} {i : ℕ} {o d : Page} {m rest : ℕ} (t : Todo v i o d m rest) (c rest' : ℕ) : Type 0 where
   pub later : i < c
   pub within : c < v.count
-  pub again : (d' d'' : List ℕ) → d' ≡ wrote k d (m ∷ []) → d'' ≡ wrote k d' (text_at v c) → Todo v i k o d'' 44 rest'
+  pub again : (d' d'' : Page) → d' ≡ wrote_on d (m ∷ []) → d'' ≡ wrote_on d' (text_at v c) → Todo v i o d'' 44 rest'
 
 module _ (v : Nodes) (g : Good 64 v) where
-  module _ (groups : List ℕ) (q : Groups v groups) {i k : ℕ} {o d : List ℕ} {m rest : ℕ} (t : Todo v i k o d m rest) where
+  module _ (groups : List ℕ) (q : Groups v groups) {i : ℕ} {o d : Page} {m rest : ℕ} (t : Todo v i o d m rest) where
     -- the child that comes
     pub todo_next : (c rest' : ℕ) → Gives v groups i rest (Some c) rest' → Next t c rest'
     todo_next c rest' s =
@@ -55,10 +56,10 @@ module _ (v : Nodes) (g : Good 64 v) where
         }
 
     -- no child is left: a bracket closes the text
-    pub todo_end : (rest' : ℕ) → Gives v groups i rest None rest' → (d' : List ℕ) → d' ≡ wrote k d (41 ∷ []) → d' ≡ wrote k o (text_at v i)
+    pub todo_end : (rest' : ℕ) → Gives v groups i rest None rest' → (d' : Page) → d' ≡ wrote_on d (41 ∷ []) → d' ≡ wrote_on o (text_at v i)
     todo_end rest' s d' a =
         let whole = ap (λ (f : Forest). t.done ++ children_text m f) (sym (left_end v g groups q t.left rest' s)) ∙ t.whole in
-        simp (a, t.told, writes) (ap (wrote k o) whole)
+        simp (a, t.told, writes) (ap (wrote_on o) whole)
 
   module _ (i : ℕ) (h : i < v.count) where
     -- a leaf's text is its species number
@@ -70,17 +71,17 @@ module _ (v : Nodes) (g : Good 64 v) where
         by (parted k t) = absurd (n k)
 
     -- nothing of a node with children was written yet
-    pub todo_start : (groups : List ℕ) → Groups v groups → v.species i ≡ none → (k : ℕ) (o : List ℕ) (rest : ℕ)
+    pub todo_start : (groups : List ℕ) → Groups v groups → v.species i ≡ none → (o : Page) (rest : ℕ)
         → rest ≡ cond (eqb (v.species i) none) (get_or groups i 0) 0
-        → Todo v i k o o 40 rest
-    todo_start groups q n room o rest e = by (opened v g i h)
+        → Todo v i o o 40 rest
+    todo_start groups q n o rest e = by (opened v g i h)
       where
-        by : Opened v i → Todo v i room o o 40 rest
+        by : Opened v i → Todo v i o o 40 rest
         by (alone k c t) = absurd (k n)
         by (parted k t) = record {
           forest = _;
           left = left-start v g i h groups q (v.species i) rest refl e;
           done = [];
-          told = sym (wrote_nothing room o);
+          told = sym (wrote_on_nothing o);
           whole = ap (λ (z : Tree). subtree_text (house z)) (sym t);
         }

@@ -5,7 +5,7 @@ ghost use Rattle.std.specs.Prelude.{◌≡◌, ◌<◌};
 ghost use Rattle.trees.specs.Trees.{house};
 ghost use Rattle.bodies.specs.Nodes.{nodes};
 ghost use Rattle.bodies.specs.Draws.{subtree};
-ghost use Rattle.writing.specs.Texts.{wrote};
+ghost use Rattle.writing.specs.Pages.{wrote_on};
 ghost use Rattle.rendering.specs.Texts.{subtree_text};
 ghost use Rattle.rendering.specs.Renders.{Renders};
 
@@ -21,9 +21,9 @@ pub struct Text {
 }
 
 // Writes the text of the tree under node i, in house order.
-fn put(tree: groups::Grouped, i: usize, draft: &mut writing::Text<LONGEST>)
+fn put(tree: groups::Grouped, i: usize, draft: &mut writing::Text)
     requires i_bound { i < (nodes tree.body.now).count }
-    ensures { draft.new ≡ wrote LONGEST draft.old (subtree_text (house (subtree (nodes tree.entry.body.now) i))) }
+    ensures { draft.new ≡ wrote_on draft.old (subtree_text (house (subtree (nodes tree.entry.body.now) i))) }
 {
     let s = bodies::species(tree.body, i);
     if s != bodies::NONE {
@@ -52,7 +52,8 @@ pub fn render(n: usize, body: &[u8], room: &mut [u8]) -> Result<Text, Refusal>
         body,
         groups: &groups,
     };
-    let mut draft = writing::Text::new();
+    let mut bytes = [0; LONGEST];
+    let mut draft = writing::Text::new(&mut bytes);
     put(tree, 0, &mut draft);
     draft.push(b';');
     let end = draft.len();

@@ -2,7 +2,8 @@
 #![tactic(auto, using(writing::proofs::Writing::writes))]
 
 ghost use Rattle.std.specs.Prelude.{◌≡◌, ◌∷◌, ◌++◌, map};
-ghost use Rattle.writing.specs.Texts.{decimal, ended, wrote};
+ghost use Rattle.writing.specs.Pages.{wrote_on};
+ghost use Rattle.writing.specs.Texts.{decimal, ended};
 ghost use Rattle.reply_text.specs.Text.{rule_text, reply_text, barred};
 
 use bodies::Fault;
@@ -10,16 +11,16 @@ use refusals::Reply;
 use writing::{Number, Text};
 
 // Writes the word of a fault, and its own data.
-fn put_fault<const ROOM: usize>(out: &mut Text<ROOM>, word: &[u8], x: usize)
-    ensures { out.new ≡ wrote ROOM out.old (word.now ++ (32 ∷ decimal x)) }
+fn put_fault(out: &mut Text, word: &[u8], x: usize)
+    ensures { out.new ≡ wrote_on out.old (word.now ++ (32 ∷ decimal x)) }
 {
     out.word(word);
     out.spaced(x as u64);
 }
 
 // Writes which rule is broken, and nothing where none is.
-fn put_rule<const ROOM: usize>(out: &mut Text<ROOM>, rule: Option<Fault>)
-    ensures { out.new ≡ wrote ROOM out.old (rule_text rule) }
+fn put_rule(out: &mut Text, rule: Option<Fault>)
+    ensures { out.new ≡ wrote_on out.old (rule_text rule) }
 {
     match rule {
         None => {}
@@ -31,8 +32,8 @@ fn put_rule<const ROOM: usize>(out: &mut Text<ROOM>, rule: Option<Fault>)
 }
 
 // Writes a reply.
-fn put_reply<const ROOM: usize>(out: &mut Text<ROOM>, s: Reply)
-    ensures { out.new ≡ wrote ROOM out.old (reply_text s) }
+fn put_reply(out: &mut Text, s: Reply)
+    ensures { out.new ≡ wrote_on out.old (reply_text s) }
 {
     out.decimal(s.number as u64);
     out.numbers(s.values.as_slice());
@@ -40,40 +41,40 @@ fn put_reply<const ROOM: usize>(out: &mut Text<ROOM>, s: Reply)
 }
 
 // Writes a line that ends after the answer.
-pub fn put_line<const ROOM: usize>(out: &mut Text<ROOM>, s: Reply)
-    ensures { out.new ≡ wrote ROOM out.old (ended (reply_text s)) }
+pub fn put_line(out: &mut Text, s: Reply)
+    ensures { out.new ≡ wrote_on out.old (ended (reply_text s)) }
 {
     put_reply(out, s);
     out.push(b'\n');
 }
 
 // Writes a bar, and numbers behind it.
-fn put_list<const ROOM: usize, T: Number>(out: &mut Text<ROOM>, l: &[T])
-    ensures { out.new ≡ wrote ROOM out.old (barred (map T.value l.now)) }
+fn put_list<T: Number>(out: &mut Text, l: &[T])
+    ensures { out.new ≡ wrote_on out.old (barred (map T.value l.now)) }
 {
     out.word(b" |");
     out.numbers(l);
 }
 
 // Writes an answer, and the bytes of a table or a room behind it.
-fn put_lent<const ROOM: usize>(out: &mut Text<ROOM>, s: Reply, l: &[u8])
-    ensures { out.new ≡ wrote ROOM out.old (reply_text s ++ barred l.now) }
+fn put_lent(out: &mut Text, s: Reply, l: &[u8])
+    ensures { out.new ≡ wrote_on out.old (reply_text s ++ barred l.now) }
 {
     put_reply(out, s);
     put_list(out, l);
 }
 
 // Writes a line with the bytes of a table or a room behind the answer.
-pub fn put_barred<const ROOM: usize>(out: &mut Text<ROOM>, s: Reply, l: &[u8])
-    ensures { out.new ≡ wrote ROOM out.old (ended (reply_text s ++ barred l.now)) }
+pub fn put_barred(out: &mut Text, s: Reply, l: &[u8])
+    ensures { out.new ≡ wrote_on out.old (ended (reply_text s ++ barred l.now)) }
 {
     put_lent(out, s, l);
     out.push(b'\n');
 }
 
 // Writes a line with the bytes of a room and then the sets of a list behind the answer.
-pub fn put_both<const ROOM: usize>(out: &mut Text<ROOM>, s: Reply, l: &[u8], sets: &[u64])
-    ensures { out.new ≡ wrote ROOM out.old (ended (reply_text s ++ (barred l.now ++ barred sets.now))) }
+pub fn put_both(out: &mut Text, s: Reply, l: &[u8], sets: &[u64])
+    ensures { out.new ≡ wrote_on out.old (ended (reply_text s ++ (barred l.now ++ barred sets.now))) }
 {
     put_lent(out, s, l);
     put_list(out, sets);

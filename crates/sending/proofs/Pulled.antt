@@ -14,8 +14,9 @@ use Rattle.bodies.specs.Draws.{node_count, subtree, tree_of}
 use Rattle.bodies.specs.Nodes.{Good, most_nodes, nodes, none}
 use Rattle.groups.specs.Groups.{set_of}
 use Rattle.easing.specs.Eases.{numbers}
-use Rattle.writing.proofs.Writing.{writes, wrote_both, wrote_nothing}
-use Rattle.writing.specs.Texts.{ended, wrote}
+use Rattle.writing.proofs.Writing.{writes, wrote_on_both, wrote_on_nothing}
+use Rattle.writing.specs.Pages.{Page, wrote_on}
+use Rattle.writing.specs.Texts.{ended}
 use Rattle.species_text.specs.Lines.{species_line}
 use Rattle.sending.proofs.InnerNodes.{behind_root, inner_end, inner_leaf, inner_more, inner_from}
 use Rattle.sending.proofs.Lines.{lines_more}
@@ -59,19 +60,19 @@ any_last : (l : List ℕ) (s : ℕ) → true ≡ any_set (l ++ (s ∷ []))
 any_last [] s = refl
 any_last (x ∷ l) s = refl
 
--- o was the text, and is o' now, with the lines of the groups of the nodes before i behind it, in a room of k bytes; `some` says whether there is one
-pub record Todo (b : List ℕ) (k : ℕ) (o o' : List ℕ) (some : Bool) (i : ℕ) : Type 0 where
+-- o was the text, and is o' now, with the lines of the groups of the nodes before i behind it; `some` says whether there is one
+pub record Todo (b : List ℕ) (o o' : Page) (some : Bool) (i : ℕ) : Type 0 where
   pub done : List ℕ
-  pub text : o' ≡ wrote k o (species_lines together_words done)
+  pub text : o' ≡ wrote_on o (species_lines together_words done)
   pub whole : done ++ numbers (inner_from (nodes b) ((nodes b).count - i) i) ≡ pulled b
   pub told : some ≡ any_set done
 
-pub todo_start : (b : List ℕ) → InPreorder b → (k : ℕ) (o : List ℕ) → Todo b k o o false 1
-todo_start b p k o = record { done = []; text = sym (wrote_nothing k o); whole = pulled_is b p; told = refl }
+pub todo_start : (b : List ℕ) → InPreorder b → (o : Page) → Todo b o o false 1
+todo_start b p o = record { done = []; text = sym (wrote_on_nothing o); whole = pulled_is b p; told = refl }
 
-module _ {b : List ℕ} {k : ℕ} {o o' : List ℕ} {some : Bool} {i : ℕ} (t : Todo b k o o' some i) (h : i < (nodes b).count) where
+module _ {b : List ℕ} {o o' : Page} {some : Bool} {i : ℕ} (t : Todo b o o' some i) (h : i < (nodes b).count) where
   -- a leaf has no line
-  pub todo_leaf : (nodes b).species i ≢ none → Todo b k o o' some (i + 1)
+  pub todo_leaf : (nodes b).species i ≢ none → Todo b o o' some (i + 1)
   todo_leaf e = record {
     done = t.done;
     text = t.text;
@@ -90,7 +91,7 @@ module _ {b : List ℕ} {k : ℕ} {o o' : List ℕ} {some : Bool} {i : ℕ} (t :
     parted : t.done ++ (s ∷ rest) ≡ pulled b
     parted = ap (λ (l : List Species). t.done ++ numbers l) (sym (inner_more (nodes b) (nodes b).count i h e)) ∙ t.whole
 
-    pub todo_next : (x : ℕ) → x ≡ s → (o'' : List ℕ) → o'' ≡ wrote k o' (species_line together_words x) → Todo b k o o'' true (i + 1)
+    pub todo_next : (x : ℕ) → x ≡ s → (o'' : Page) → o'' ≡ wrote_on o' (species_line together_words x) → Todo b o o'' true (i + 1)
     todo_next x q o'' w = record {
       done = t.done ++ (x ∷ []);
       text = simp (w, t.text, lines_more together_words t.done x, writes);
@@ -108,20 +109,20 @@ no_lines : (l : List ℕ) → false ≡ any_set l → species_lines together_wor
 no_lines [] e = refl
 no_lines (x ∷ l) e = absurd (false≢true e)
 
-module _ {b : List ℕ} {k : ℕ} {o o' : List ℕ} {some : Bool} {i : ℕ} (t : Todo b k o o' some i) (h : (nodes b).count ≤ i) where
+module _ {b : List ℕ} {o o' : Page} {some : Bool} {i : ℕ} (t : Todo b o o' some i) (h : (nodes b).count ≤ i) where
   all_done : t.done ≡ pulled b
   all_done = sym (append-nil t.done) ∙ ap (λ (l : List Species). t.done ++ numbers l) (sym (inner_end (nodes b) (nodes b).count i h)) ∙ t.whole
 
-  all_written : o' ≡ wrote k o (species_lines together_words (pulled b))
-  all_written = t.text ∙ ap (λ (l : List ℕ). wrote k o (species_lines together_words l)) all_done
+  all_written : o' ≡ wrote_on o (species_lines together_words (pulled b))
+  all_written = t.text ∙ ap (λ (l : List ℕ). wrote_on o (species_lines together_words l)) all_done
 
   all_told : some ≡ any_set (pulled b)
   all_told = t.told ∙ ap any_set all_done
 
-  pub todo_end : some ≡ true → o' ≡ wrote k o (groups_text b)
-  todo_end e = all_written ∙ ap (wrote k o) (some_lines (pulled b) (sym e ∙ all_told))
+  pub todo_end : some ≡ true → o' ≡ wrote_on o (groups_text b)
+  todo_end e = all_written ∙ ap (wrote_on o) (some_lines (pulled b) (sym e ∙ all_told))
 
-  pub todo_none : some ≡ false → (o'' : List ℕ) → o'' ≡ wrote k o' (ended nothing_words) → o'' ≡ wrote k o (groups_text b)
+  pub todo_none : some ≡ false → (o'' : Page) → o'' ≡ wrote_on o' (ended nothing_words) → o'' ≡ wrote_on o (groups_text b)
   todo_none e o'' w =
-      w ∙ ap (λ (z : List ℕ). wrote k z (ended nothing_words)) all_written
-      ∙ wrote_both k o (species_lines together_words (pulled b)) (ended nothing_words) ∙ ap (wrote k o) (no_lines (pulled b) (sym e ∙ all_told))
+      w ∙ ap (λ (z : Page). wrote_on z (ended nothing_words)) all_written
+      ∙ wrote_on_both o (species_lines together_words (pulled b)) (ended nothing_words) ∙ ap (wrote_on o) (no_lines (pulled b) (sym e ∙ all_told))

@@ -3,7 +3,7 @@
 
 ghost use Rattle.std.specs.Prelude.{◌≡◌};
 ghost use Rattle.answers.specs.Inputs.{Body, Count};
-ghost use Rattle.writing.specs.Texts.{wrote};
+ghost use Rattle.writing.specs.Pages.{wrote_on};
 ghost use Rattle.sending.specs.Words.{dropped_word};
 ghost use Rattle.sending.specs.Pulls.{InPreorder, groups_text, species_lines};
 ghost use Rattle.sending.specs.Sends.{lines_text, send_text, sent_text};
@@ -11,8 +11,8 @@ ghost use Rattle.sending.specs.Sends.{lines_text, send_text, sent_text};
 use writing::Text;
 
 // Writes a line for each set that was dropped.
-fn put_dropped<const ROOM: usize>(out: &mut Text<ROOM>, l: &[u64])
-    ensures { out.new ≡ wrote ROOM out.old (species_lines dropped_word l.now) }
+fn put_dropped(out: &mut Text, l: &[u64])
+    ensures { out.new ≡ wrote_on out.old (species_lines dropped_word l.now) }
 {
     for s in l {
         species_text::put_species(out, b"dropped:", *s);
@@ -20,9 +20,9 @@ fn put_dropped<const ROOM: usize>(out: &mut Text<ROOM>, l: &[u64])
 }
 
 // Writes a line for each group to pull by: the inner nodes behind the root, of a body in preorder.
-fn put_groups<const ROOM: usize>(out: &mut Text<ROOM>, body: &[u8])
+fn put_groups(out: &mut Text, body: &[u8])
     requires { InPreorder body.now }
-    ensures { out.new ≡ wrote ROOM out.old (groups_text body.now) }
+    ensures { out.new ≡ wrote_on out.old (groups_text body.now) }
 {
     let mut groups = [0; bodies::MOST_NODES];
     groups::groups(body, &mut groups);
@@ -40,9 +40,9 @@ fn put_groups<const ROOM: usize>(out: &mut Text<ROOM>, body: &[u8])
 }
 
 // Writes the tree that may be sent, what was dropped, and the groups to pull by.
-fn put_lines<const ROOM: usize>(out: &mut Text<ROOM>, n: usize, body: &[u8], dropped: &[u64])
+fn put_lines(out: &mut Text, n: usize, body: &[u8], dropped: &[u64])
     requires { Count n × Body n body.now × InPreorder body.now }
-    ensures { out.new ≡ wrote ROOM out.old (lines_text body.now dropped.now) }
+    ensures { out.new ≡ wrote_on out.old (lines_text body.now dropped.now) }
 {
     species_text::put_tree(out, b"may be sent: ", n, body);
     put_dropped(out, dropped);
@@ -50,9 +50,9 @@ fn put_lines<const ROOM: usize>(out: &mut Text<ROOM>, n: usize, body: &[u8], dro
 }
 
 // Loosens the tree of a good body, and writes what comes of it.
-fn put_sent<const ROOM: usize>(out: &mut Text<ROOM>, n: usize, t: &[u8], body: &[u8])
+fn put_sent(out: &mut Text, n: usize, t: &[u8], body: &[u8])
     requires { Count n × Body n body.now }
-    ensures { out.new ≡ wrote ROOM out.old (sent_text n t.now body.now) }
+    ensures { out.new ≡ wrote_on out.old (sent_text n t.now body.now) }
 {
     let mut room = [0; bodies::LONGEST];
     let mut list = [0; loosening::MOST_DROPPED];
@@ -66,9 +66,9 @@ fn put_sent<const ROOM: usize>(out: &mut Text<ROOM>, n: usize, t: &[u8], body: &
 }
 
 // Writes what is printed of the tree of a good body, built from the table t of n species.
-pub fn send<const ROOM: usize>(out: &mut Text<ROOM>, n: usize, t: &[u8], body: &[u8])
+pub fn send(out: &mut Text, n: usize, t: &[u8], body: &[u8])
     requires { Count n × Body n body.now }
-    ensures { out.new ≡ wrote ROOM out.old (send_text n t.now body.now) }
+    ensures { out.new ≡ wrote_on out.old (send_text n t.now body.now) }
 {
     verdict_text::put_verdict(out, n, t, body);
     put_sent(out, n, t, body);

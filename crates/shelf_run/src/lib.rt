@@ -17,7 +17,8 @@ pub fn run(table: &mut [u8; 41664])
 {
     let mut bytes = [0u8; collections::LONGEST + 1];
     let n = io::read_full(0, &mut bytes);
-    let mut text = writing::Text::new();
+    let mut lent = [0u8; 8192];
+    let mut text = writing::Text::new(&mut lent);
     shelf_text::shelf(&bytes[..n], table, &mut text);
     print(&bytes, n, text.as_slice());
 }

@@ -23,8 +23,9 @@ use Rattle.answers.specs.declared.Written.{Written}
 use Rattle.checking.specs.Checks.{check_answer, check_told}
 use Rattle.writing.proofs.Digits.{decimal_few}
 use Rattle.writing.proofs.Spaced.{spaced_few}
-use Rattle.writing.proofs.Writing.{wrote_alone, wrote_both}
-use Rattle.writing.specs.Texts.{decimal, ended, spaced, wrote}
+use Rattle.writing.proofs.Writing.{whole_on, wrote_on_both}
+use Rattle.writing.specs.Pages.{Page, wrote_on}
+use Rattle.writing.specs.Texts.{decimal, ended, spaced}
 use Rattle.shelf_text.specs.Shelf.{behind_text, body_text, build_word, build_numbers, check_word, read_word, read_numbers, read_text, shelf_text, shown_numbers, table_text}
 use Rattle.shelf_text.specs.Texts.{line, numbers}
 use Rattle.std.specs.Prelude.{Ok, Err, Result}
@@ -114,9 +115,10 @@ module _ (b : List ℕ) where
         ap (table_text c.n c.set) (sym (list_whole d.1 z e)) ∙ ap (read_text b) (sym q ∙ p)
 
   -- there is room for the whole text
-  pub shelf_written : (o w o' : List ℕ) → o ≡ [] → w ≡ shelf_text b → o' ≡ wrote 8192 o w → o' ≡ shelf_text b
-  shelf_written o w o' n e x = x ∙ ap (λ (z : List ℕ). wrote 8192 z w) n ∙ wrote_alone 8192 w (omega (arith, ap length e, shelf_few b)) ∙ e
+  pub shelf_written : (p o o' : Page) (w : List ℕ) → 8192 ≤ p.room → o ≡ record p { text = [] } → w ≡ shelf_text b → o' ≡ wrote_on o w → o' ≡ record p { text = shelf_text b }
+  shelf_written p o o' w r n e x =
+      x ∙ ap (λ (z : Page). wrote_on z w) n ∙ whole_on p w (omega (arith, r, ap length e, shelf_few b)) ∙ ap (λ (t : List ℕ). record p { text = t }) e
 
 -- v, which is u, behind w
-pub two : (k : ℕ) (o o₁ o₂ w v u : List ℕ) → o₁ ≡ wrote k o w → o₂ ≡ wrote k o₁ v → v ≡ u → o₂ ≡ wrote k o (w ++ u)
-two k o o₁ o₂ w v u e f h = f ∙ ap (λ (z : List ℕ). wrote k z v) e ∙ wrote_both k o w v ∙ ap (λ (z : List ℕ). wrote k o (w ++ z)) h
+pub two : (o o₁ o₂ : Page) (w v u : List ℕ) → o₁ ≡ wrote_on o w → o₂ ≡ wrote_on o₁ v → v ≡ u → o₂ ≡ wrote_on o (w ++ u)
+two o o₁ o₂ w v u e f h = f ∙ ap (λ (z : Page). wrote_on z v) e ∙ wrote_on_both o w v ∙ ap (λ (z : List ℕ). wrote_on o (w ++ z)) h

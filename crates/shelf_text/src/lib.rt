@@ -1,11 +1,11 @@
 // What `shelf` prints, as text.
 #![tactic(auto, using(writing::proofs::Writing::writes))]
 
-ghost use Rattle.std.specs.Prelude.{◌≡◌, length};
+ghost use Rattle.std.specs.Prelude.{◌≡◌, ◌≤◌, length};
 ghost use Rattle.collections.specs.Collection.{Collection};
 ghost use Rattle.collections.specs.Layout.{species};
 ghost use Rattle.listing.specs.Lists.{list_of};
-ghost use Rattle.writing.specs.Texts.{wrote};
+ghost use Rattle.writing.specs.Pages.{wrote_on};
 ghost use Rattle.shelf_text.specs.Texts.{line, numbers};
 ghost use Rattle.shelf_text.specs.Shelf.{unread_numbers, shown_numbers, body_text, table_text, shelf_text};
 
@@ -13,8 +13,8 @@ use refusals::Reply;
 use writing::Text;
 
 // Writes a line of a word and numbers.
-fn put_line<const ROOM: usize>(out: &mut Text<ROOM>, w: &[u8], l: &[u64])
-    ensures { out.new ≡ wrote ROOM out.old (line w.now l.now) }
+fn put_line(out: &mut Text, w: &[u8], l: &[u64])
+    ensures { out.new ≡ wrote_on out.old (line w.now l.now) }
 {
     out.word(w);
     out.numbers(l);
@@ -22,8 +22,8 @@ fn put_line<const ROOM: usize>(out: &mut Text<ROOM>, w: &[u8], l: &[u64])
 }
 
 // Writes a line of the bytes of a body.
-fn put_body<const ROOM: usize>(out: &mut Text<ROOM>, body: &[u8])
-    ensures { out.new ≡ wrote ROOM out.old (numbers body.now) }
+fn put_body(out: &mut Text, body: &[u8])
+    ensures { out.new ≡ wrote_on out.old (numbers body.now) }
 {
     if body.len() == 0 {
         out.push(b'\n');
@@ -50,8 +50,8 @@ fn unread(s: Reply) -> [u64; 3]
 }
 
 // Writes the line of a build or a check: the number, and the first value.
-fn put_shown<const ROOM: usize>(out: &mut Text<ROOM>, w: &[u8], s: Reply)
-    ensures { out.new ≡ wrote ROOM out.old (line w.now (shown_numbers s.number (s.values))) }
+fn put_shown(out: &mut Text, w: &[u8], s: Reply)
+    ensures { out.new ≡ wrote_on out.old (line w.now (shown_numbers s.number (s.values))) }
 {
     let k = s.number as u64;
     match s.values.as_slice().first() {
@@ -61,8 +61,8 @@ fn put_shown<const ROOM: usize>(out: &mut Text<ROOM>, w: &[u8], s: Reply)
 }
 
 // Writes a body, and the line of its check.
-fn body_lines<const ROOM: usize>(out: &mut Text<ROOM>, n: usize, t: &[u8], body: &[u8])
-    ensures { out.new ≡ wrote ROOM out.old (body_text n t.now body.now) }
+fn body_lines(out: &mut Text, n: usize, t: &[u8], body: &[u8])
+    ensures { out.new ≡ wrote_on out.old (body_text n t.now body.now) }
 {
     put_body(out, body);
     let a = checking::check(n, t, body);
@@ -70,8 +70,8 @@ fn body_lines<const ROOM: usize>(out: &mut Text<ROOM>, n: usize, t: &[u8], body:
 }
 
 // Builds the tree of a set of species, of the table t, and writes what comes of it.
-fn build_lines<const ROOM: usize>(out: &mut Text<ROOM>, n: usize, set: u64, t: &[u8])
-    ensures { out.new ≡ wrote ROOM out.old (table_text n set t.now) }
+fn build_lines(out: &mut Text, n: usize, set: u64, t: &[u8])
+    ensures { out.new ≡ wrote_on out.old (table_text n set t.now) }
 {
     let mut room = [0; bodies::LONGEST];
     let a = building::build(n, set, t, &mut room).answer;
@@ -83,26 +83,20 @@ fn build_lines<const ROOM: usize>(out: &mut Text<ROOM>, n: usize, set: u64, t: &
 }
 
 // Lists a collection that can be read, and goes on with its table, over a set of species.
-fn listed_lines<const ROOM: usize>(
-    out: &mut Text<ROOM>,
-    b: &[u8],
-    n: usize,
-    set: u64,
-    table: &mut [u8],
-)
+fn listed_lines(out: &mut Text, b: &[u8], n: usize, set: u64, table: &mut [u8])
     requires table_len { length table.old ≡ 41664 }
     requires collection { Collection b.now × (n ≡ species b.now) }
-    ensures { out.new ≡ wrote ROOM out.old (table_text n set (list_of b.now)) }
+    ensures { out.new ≡ wrote_on out.old (table_text n set (list_of b.now)) }
 {
     let k = triples::count(n);
     let _ = listing::list(b, &mut table[..k]);
     build_lines(out, n, set, &table[..k]);
 }
 
-// Writes what `shelf` prints of a collection. What the table and the text held does not matter.
-pub fn shelf(b: &[u8], table: &mut [u8; 41664], out: &mut Text<8192>)
-    requires { length table.old ≡ 41664 }
-    ensures { out.new ≡ shelf_text b.now }
+// Writes what `shelf` prints of a collection, where there is room for any. What the table and the text held does not matter.
+pub fn shelf(b: &[u8], table: &mut [u8; 41664], out: &mut Text)
+    requires { (length table.old ≡ 41664) × (8192 ≤ out.old.room) }
+    ensures { out.new ≡ record out.old { text = shelf_text b.now } }
 {
     out.clear();
     match collections::read(b) {

@@ -3,14 +3,14 @@
 
 ghost use Rattle.std.specs.Prelude.{◌≡◌};
 ghost use Rattle.answers.specs.Inputs.{Body, Count};
-ghost use Rattle.writing.specs.Texts.{wrote};
+ghost use Rattle.writing.specs.Pages.{wrote_on};
 ghost use Rattle.species_text.specs.Lines.{species_line, tree_line};
 
 use writing::Text;
 
 // Writes a line of a word and the species of a set, from the lowest up.
-pub fn put_species<const ROOM: usize>(out: &mut Text<ROOM>, w: &[u8], s: u64)
-    ensures { out.new ≡ wrote ROOM out.old (species_line w.now s) }
+pub fn put_species(out: &mut Text, w: &[u8], s: u64)
+    ensures { out.new ≡ wrote_on out.old (species_line w.now s) }
 {
     out.word(w);
     for x in sets::species(s) {
@@ -20,9 +20,9 @@ pub fn put_species<const ROOM: usize>(out: &mut Text<ROOM>, w: &[u8], s: u64)
 }
 
 // Writes a line of a word and the tree of a good body.
-pub fn put_tree<const ROOM: usize>(out: &mut Text<ROOM>, w: &[u8], n: usize, body: &[u8])
+pub fn put_tree(out: &mut Text, w: &[u8], n: usize, body: &[u8])
     requires { Count n × Body n body.now }
-    ensures { out.new ≡ wrote ROOM out.old (tree_line w.now body.now) }
+    ensures { out.new ≡ wrote_on out.old (tree_line w.now body.now) }
 {
     let mut text = [0; rendering::LONGEST];
     match rendering::render(n, body, &mut text) {

@@ -3,7 +3,7 @@
 
 ghost use Rattle.std.specs.Prelude.{◌≡◌, ◌++◌, ◌<◌, ◌≤◌, length};
 ghost use Rattle.newick.specs.Texts.{longest_text};
-ghost use Rattle.writing.specs.Texts.{wrote};
+ghost use Rattle.writing.specs.Pages.{wrote_on};
 ghost use Rattle.standing.specs.Expected.{is_at, stops_at, may_stand, sign_name, between, expected};
 
 use answers::Written;
@@ -33,16 +33,17 @@ fn stops_at(a: Result<Written, Refusal>, q: usize) -> bool
 }
 
 // May byte b stand at place q of the text?
-#[tactic(auto, using(writing::proofs::Writing::writes, crate::proofs::Tried::tried), unfolding(crate::specs::Expected::may_stand))]
+#[tactic(auto, using(crate::proofs::Tried::tried), unfolding(crate::specs::Expected::may_stand))]
 fn may_stand(text: &[u8], q: usize, b: u8) -> bool
     requires { (q ≤ length text.now) × (q < longest_text) }
     ensures { result ≡ may_stand text.now q b }
 {
-    let mut draft: Text<LONGEST> = Text::new();
+    let mut draft = [0; LONGEST];
     let mut room = [0; bodies::LONGEST];
-    draft.word(&text[..q]);
-    draft.push(b);
-    let a = parsing::parse(MOST_SPECIES, draft.as_slice(), &mut room);
+    draft[..q].copy_from_slice(&text[..q]);
+    draft[q] = b;
+    let end = q + 1;
+    let a = parsing::parse(MOST_SPECIES, &draft[..end], &mut room);
     !stops_at(a, q)
 }
 
@@ -62,8 +63,8 @@ fn name_of(sign: u8) -> &'static [u8]
 }
 
 // Writes the name of a sign, behind ` or ` where there are names before.
-fn put_name<const ROOM: usize>(out: &mut Text<ROOM>, sign: u8, some: bool)
-    ensures { out.new ≡ wrote ROOM out.old (between some ++ sign_name sign) }
+fn put_name(out: &mut Text, sign: u8, some: bool)
+    ensures { out.new ≡ wrote_on out.old (between some ++ sign_name sign) }
 {
     if some {
         out.word(b" or ");
@@ -73,9 +74,9 @@ fn put_name<const ROOM: usize>(out: &mut Text<ROOM>, sign: u8, some: bool)
 
 // Writes the names of the signs that may stand at place q of the text.
 #[tactic(auto, using(writing::proofs::Writing::writes, crate::proofs::Names::names_end))]
-pub fn put_expected<const ROOM: usize>(out: &mut Text<ROOM>, text: &[u8], q: usize)
+pub fn put_expected(out: &mut Text, text: &[u8], q: usize)
     requires { (q ≤ length text.now) × (q < longest_text) }
-    ensures { out.new ≡ wrote ROOM out.old (expected text.now q) }
+    ensures { out.new ≡ wrote_on out.old (expected text.now q) }
 {
     let mut some = false;
     for sign in &SIGNS {

@@ -6,21 +6,21 @@ ghost use Rattle.listing.specs.Lists.{list_after};
 ghost use Rattle.entering.specs.Enters.{enter_after};
 ghost use Rattle.building.specs.Builds.{build_after};
 ghost use Rattle.building.specs.Vetoes.{veto_after};
-ghost use Rattle.writing.specs.Texts.{wrote};
+ghost use Rattle.writing.specs.Pages.{wrote_on};
 ghost use Rattle.table_lines.specs.Lines.{read_line, list_line, enter_line, build_line, veto_line};
 
 use writing::Text;
 
 // Reads a collection, and writes the line of the call.
-pub fn read_line<const ROOM: usize>(out: &mut Text<ROOM>, b: &[u8])
-    ensures { out.new ≡ wrote ROOM out.old (read_line b.now) }
+pub fn read_line(out: &mut Text, b: &[u8])
+    ensures { out.new ≡ wrote_on out.old (read_line b.now) }
 {
     reply_text::put_line(out, replies::answer(collections::read(b)));
 }
 
 // Lists a collection into the table t, and writes the line of the call.
-pub fn list_line<const ROOM: usize>(out: &mut Text<ROOM>, b: &[u8], t: &mut [u8])
-    ensures writes { out.new ≡ wrote ROOM out.old (list_line b.now t.old) }
+pub fn list_line(out: &mut Text, b: &[u8], t: &mut [u8])
+    ensures writes { out.new ≡ wrote_on out.old (list_line b.now t.old) }
     ensures t_after { t.new ≡ list_after b.now t.old }
 {
     let a = listing::list(b, t);
@@ -28,13 +28,8 @@ pub fn list_line<const ROOM: usize>(out: &mut Text<ROOM>, b: &[u8], t: &mut [u8]
 }
 
 // Enters records into the table t, and writes the line of the call.
-pub fn enter_line<const ROOM: usize>(
-    out: &mut Text<ROOM>,
-    n: usize,
-    records: &[[u8; 3]],
-    t: &mut [u8],
-)
-    ensures writes { out.new ≡ wrote ROOM out.old (enter_line n records.now t.old) }
+pub fn enter_line(out: &mut Text, n: usize, records: &[[u8; 3]], t: &mut [u8])
+    ensures writes { out.new ≡ wrote_on out.old (enter_line n records.now t.old) }
     ensures t_after { t.new ≡ enter_after n records.now t.old }
 {
     let a = entering::enter(n, records, t);
@@ -42,14 +37,8 @@ pub fn enter_line<const ROOM: usize>(
 }
 
 // Builds the tree of a set of species, of the table t, and writes the line of the call.
-pub fn build_line<const ROOM: usize>(
-    out: &mut Text<ROOM>,
-    n: usize,
-    set: u64,
-    t: &[u8],
-    room: &mut [u8],
-)
-    ensures writes { out.new ≡ wrote ROOM out.old (build_line n set t.now room.old) }
+pub fn build_line(out: &mut Text, n: usize, set: u64, t: &[u8], room: &mut [u8])
+    ensures writes { out.new ≡ wrote_on out.old (build_line n set t.now room.old) }
     ensures room_after { room.new ≡ build_after n set t.now room.old }
 {
     let a = building::build(n, set, t, room);
@@ -57,14 +46,8 @@ pub fn build_line<const ROOM: usize>(
 }
 
 // Makes the veto build of a set of species, of the table t, and writes the line of the call.
-pub fn veto_line<const ROOM: usize>(
-    out: &mut Text<ROOM>,
-    n: usize,
-    set: u64,
-    t: &[u8],
-    room: &mut [u8],
-)
-    ensures writes { out.new ≡ wrote ROOM out.old (veto_line n set t.now room.old) }
+pub fn veto_line(out: &mut Text, n: usize, set: u64, t: &[u8], room: &mut [u8])
+    ensures writes { out.new ≡ wrote_on out.old (veto_line n set t.now room.old) }
     ensures room_after { room.new ≡ veto_after n set t.now room.old }
 {
     let a = building::veto(n, set, t, room);

@@ -1,7 +1,7 @@
 // The table of entered triplets: its bytes.
 #![tactic(auto)]
 
-ghost use Rattle.std.specs.Prelude.{◌≡◌, ◌<◌, ◌≤◌, length, replicate};
+ghost use Rattle.std.specs.Prelude.{◌≡◌, ◌<◌, ◌≤◌, get_or, length, replicate, set};
 ghost use Rattle.std.proofs.Math.Bool.{So};
 ghost use Rattle.sets.specs.Sets.{single};
 ghost use Rattle.trees.specs.Triplets.{different};
@@ -43,6 +43,22 @@ pub fn fits(t: &[u8], n: usize) -> bool
     t.len() == triples::count(n)
 }
 
+// What the table holds at place i.
+fn held(t: &[u8], i: usize) -> u8
+    requires { i < length t.now }
+    ensures { result ≡ get_or t.now i 0 }
+{
+    t[i]
+}
+
+// Lets the table hold v at place i.
+fn hold(t: &mut [u8], i: usize, v: u8)
+    requires { i < length t.old }
+    ensures { t.new ≡ set t.old i v }
+{
+    t[i] = v;
+}
+
 // The first place with a byte over TOP, if there is one.
 pub fn over(t: &[u8]) -> Option<usize>
     ensures { result ≡ first_over t.now }
@@ -55,7 +71,8 @@ pub fn byte(t: &[u8], a: usize, b: usize, c: usize) -> u8
     requires { (a < b) × (b < c) × (c < 64) }
     ensures { Byte t.now a b c result }
 {
-    t.get(triples::index(a, b, c)).copied().unwrap_or(0)
+    let i = triples::index(a, b, c);
+    if i < t.len() { held(t, i) } else { 0 }
 }
 
 // What is entered of the triple a < b < c.
@@ -93,7 +110,8 @@ pub fn put(t: &mut [u8], a: usize, b: usize, c: usize)
     ensures { Entered t.old t.new a b c }
 {
     let s = spot(a, b, c);
-    t[s.place] |= s.bit;
+    let i = s.place;
+    hold(t, i, held(t, i) | s.bit);
 }
 
 // Adds bits to the byte of the triple a < b < c, which needs no sorting.
@@ -101,7 +119,8 @@ pub fn add(t: &mut [u8], a: usize, b: usize, c: usize, bits: u8)
     requires { (a < b) × (b < c) × (c < 64) × (index a b c < length t.old) }
     ensures { t.new ≡ added t.old (index a b c) bits }
 {
-    t[triples::index(a, b, c)] |= bits;
+    let i = triples::index(a, b, c);
+    hold(t, i, held(t, i) | bits);
 }
 
 // Takes everything out: a table of zeros.

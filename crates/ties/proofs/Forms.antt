@@ -54,6 +54,7 @@ use Rattle.promises.proofs.Own.{built_checked}
 use Rattle.std.specs.Prelude.{Ok, Err, Result}
 use Rattle.answers.specs.declared.Written.{Written}
 use Rattle.bodies.specs.declared.Broken.{Broken}
+use Rattle.writing.specs.Pages.{Page}
 
 -- ---- a refusal of reading, in its three numbers
 
@@ -293,7 +294,7 @@ forms b = go (first_refusal (read_looks b)) refl
 
 pub shows_forms : ShowsForms koodhaxil
 shows_forms = record {
-  one_of = λ M 𝓤 𝓛 mem run κs a g r s. fact_mono 𝓤 _ _ (λ h. subst (Forms koodhaxil a.0.now) (sym h) (forms a.0.now));
+  one_of = λ M 𝓤 𝓛 mem run κs a g r s. fact_mono 𝓤 _ _ (λ h. subst (Forms koodhaxil a.0.now) (sym (ap (λ (p : Page). p.text) h)) (forms a.0.now));
   unread_alone = λ b x y p q. ⊎_elim (λ s. p.unread s.collection) (⊎_elim (λ s. p.unread s.collection) (λ s. p.unread s.collection)) q;
   nobody_alone = λ b x y p q. ⊎_elim (nobody_stops b x y p) (nobody_tree b x y p) q;
   stop_alone = λ b x y p q. p.no_tree (_, q.keeps.held);

@@ -55,7 +55,7 @@ linked = record {
 
 pub printed : Printed koodhaxil
 unfolding read_line list_line enter_line order_line build_line veto_line check_line loosen_line parse_line render_line
-printed ROOM = record {
+printed = record {
   reading = λ M 𝓤 𝓛 mem run κs a g r s. fact_mono 𝓤 _ _ (λ h. h);
   listing = λ M 𝓤 𝓛 mem run κs a g r s. both_say 𝓤 (λ h k. record { line = h; left = k });
   entering = λ M 𝓤 𝓛 mem run κs a g r s. both_say 𝓤 (λ h k. record { line = h; left = k });

@@ -86,7 +86,7 @@ module _ (L : Operations) (b : List ℕ) where
 
 -- after any call of `shelf_text::shelf`, whatever bytes are handed in: the text has one of these forms, and the bytes alone say which
 pub record ShowsForms (L : Operations) : Type 2 where
-  pub one_of : After shelf.ended (λ M 𝓤. shelf.clauses) (λ κs a r s. Forms L a.0.now s.1.1.0.now)
+  pub one_of : After shelf.ended (λ M 𝓤. shelf.clauses) (λ κs a r s. Forms L a.0.now s.1.1.0.now.text)
   pub unread_alone : (b x y : List ℕ) → ShowsUnread L b x → (ShowsNobody L b y ⊎ (ShowsStop L b y ⊎ ShowsTree L b y)) → ⊥
   pub nobody_alone : (b x y : List ℕ) → ShowsNobody L b x → (ShowsStop L b y ⊎ ShowsTree L b y) → ⊥
   pub stop_alone : (b x y : List ℕ) → ShowsStop L b x → ShowsTree L b y → ⊥

@@ -1,10 +1,9 @@
 -- What laboratories link and what `trial` prints: the C functions hand back the numbers and values of the demands' answers, and leave in what was lent what the
 -- demands say; the lines of `trial` are those answers as text.
-use denote.Param.{value_of}
-use denote.RattleType.{RattleType}
 use Rattle.std.specs.Prelude.{List, ◌++◌, map, ◌≡◌, ℕ}
 use Rattle.contracts.specs.AnyCall.{After}
-use Rattle.writing.specs.Texts.{ended, wrote}
+use Rattle.writing.specs.Pages.{Page, wrote_on}
+use Rattle.writing.specs.Texts.{ended}
 use Rattle.table_lines.specs.contracts.build_line as build-line
 use Rattle.tree_lines.specs.contracts.check_line as check-line
 use Rattle.table_lines.specs.contracts.enter_line as enter-line
@@ -59,38 +58,33 @@ pub record Linked (L : Operations) : Type 2 where
   pub rendering : After c_render.ended (λ M 𝓤. c_render.clauses)
       (λ κs a r s. Hands (L.render a.0 a.1.0.now a.1.1.0.now) a.1.1.1.0.now r s.1.1.1.0.now s.1.1.0.now)
 
--- a line was written behind the text x, in a room of k bytes, which is x' now: the answer, and what was lent, which is o now and has the text `text`
-pub record PrintsBy {B : Type 0} (text : B → List ℕ) (g : GivenOf B) (k : ℕ) (x x' : List ℕ) (o : B) : Type 0 where
-  pub line : x' ≡ wrote k x (ended (told_text g.told ++ text g.after))
+-- a line was written behind the text of the page x, which is x' now: the answer, and what was lent, which is o now and has the text `text`
+pub record PrintsBy {B : Type 0} (text : B → List ℕ) (g : GivenOf B) (x x' : Page) (o : B) : Type 0 where
+  pub line : x' ≡ wrote_on x (ended (told_text g.told ++ text g.after))
   pub left : o ≡ g.after
 
 -- a table, or a room
-abbrev pub Prints : Given → ℕ → List ℕ → List ℕ → List ℕ → Type 0
+abbrev pub Prints : Given → Page → Page → List ℕ → Type 0
 Prints = PrintsBy barred
 
--- into a text of which ROOM, the parameter, says how many bytes have room
-pub record PrintedIn (L : Operations) (ROOM : RattleType) : Type 2 where
-  pub reading : After (read-line.ended ROOM) (λ M 𝓤. read-line.clauses ROOM)
-      (λ κs a r s. s.0.now ≡ wrote (value_of ROOM) a.0.now (ended (told_text (L.read a.1.0.now))))
-  pub listing : After (list-line.ended ROOM) (λ M 𝓤. list-line.clauses ROOM)
-      (λ κs a r s. Prints (L.list a.1.0.now a.1.1.0.now) (value_of ROOM) a.0.now s.0.now s.1.1.0.now)
-  pub entering : After (enter-line.ended ROOM) (λ M 𝓤. enter-line.clauses ROOM)
-      (λ κs a r s. Prints (L.enter a.1.0 a.1.1.0.now a.1.1.1.0.now) (value_of ROOM) a.0.now s.0.now s.1.1.1.0.now)
-  pub ordering : After (order-line.ended ROOM) (λ M 𝓤. order-line.clauses ROOM)
-      (λ κs a r s. Prints (L.order a.1.0 a.1.1.0.now a.1.1.1.0.now) (value_of ROOM) a.0.now s.0.now s.1.1.1.0.now)
-  pub building : After (build-line.ended ROOM) (λ M 𝓤. build-line.clauses ROOM)
-      (λ κs a r s. Prints (L.build a.1.0 a.1.1.0 a.1.1.1.0.now a.1.1.1.1.0.now) (value_of ROOM) a.0.now s.0.now s.1.1.1.1.0.now)
-  pub vetoing : After (veto-line.ended ROOM) (λ M 𝓤. veto-line.clauses ROOM)
-      (λ κs a r s. Prints (L.veto a.1.0 a.1.1.0 a.1.1.1.0.now a.1.1.1.1.0.now) (value_of ROOM) a.0.now s.0.now s.1.1.1.1.0.now)
-  pub checking : After (check-line.ended ROOM) (λ M 𝓤. check-line.clauses ROOM)
-      (λ κs a r s. s.0.now ≡ wrote (value_of ROOM) a.0.now (ended (told_text (L.check a.1.0 a.1.1.0.now a.1.1.1.0.now))))
-  pub loosening : After (loosen-line.ended ROOM) (λ M 𝓤. loosen-line.clauses ROOM)
-      (λ κs a r s. PrintsBy lent_text (L.loosen a.1.0 a.1.1.0.now a.1.1.1.0.now a.1.1.1.1.0.now a.1.1.1.1.1.0.now) (value_of ROOM) a.0.now s.0.now (lent s.1.1.1.1.0.now s.1.1.1.1.1.0.now))
-  pub parsing : After (parse-line.ended ROOM) (λ M 𝓤. parse-line.clauses ROOM)
-      (λ κs a r s. Prints (L.parse a.1.0 a.1.1.0.now a.1.1.1.0.now) (value_of ROOM) a.0.now s.0.now s.1.1.1.0.now)
-  pub rendering : After (render-line.ended ROOM) (λ M 𝓤. render-line.clauses ROOM)
-      (λ κs a r s. Prints (L.render a.1.0 a.1.1.0.now a.1.1.1.0.now) (value_of ROOM) a.0.now s.0.now s.1.1.1.0.now)
-
--- in any room
-abbrev pub Printed : Operations → Type 2
-Printed L = (ROOM : RattleType) → PrintedIn L ROOM
+pub record Printed (L : Operations) : Type 2 where
+  pub reading : After read-line.ended (λ M 𝓤. read-line.clauses)
+      (λ κs a r s. s.0.now ≡ wrote_on a.0.now (ended (told_text (L.read a.1.0.now))))
+  pub listing : After list-line.ended (λ M 𝓤. list-line.clauses)
+      (λ κs a r s. Prints (L.list a.1.0.now a.1.1.0.now) a.0.now s.0.now s.1.1.0.now)
+  pub entering : After enter-line.ended (λ M 𝓤. enter-line.clauses)
+      (λ κs a r s. Prints (L.enter a.1.0 a.1.1.0.now a.1.1.1.0.now) a.0.now s.0.now s.1.1.1.0.now)
+  pub ordering : After order-line.ended (λ M 𝓤. order-line.clauses)
+      (λ κs a r s. Prints (L.order a.1.0 a.1.1.0.now a.1.1.1.0.now) a.0.now s.0.now s.1.1.1.0.now)
+  pub building : After build-line.ended (λ M 𝓤. build-line.clauses)
+      (λ κs a r s. Prints (L.build a.1.0 a.1.1.0 a.1.1.1.0.now a.1.1.1.1.0.now) a.0.now s.0.now s.1.1.1.1.0.now)
+  pub vetoing : After veto-line.ended (λ M 𝓤. veto-line.clauses)
+      (λ κs a r s. Prints (L.veto a.1.0 a.1.1.0 a.1.1.1.0.now a.1.1.1.1.0.now) a.0.now s.0.now s.1.1.1.1.0.now)
+  pub checking : After check-line.ended (λ M 𝓤. check-line.clauses)
+      (λ κs a r s. s.0.now ≡ wrote_on a.0.now (ended (told_text (L.check a.1.0 a.1.1.0.now a.1.1.1.0.now))))
+  pub loosening : After loosen-line.ended (λ M 𝓤. loosen-line.clauses)
+      (λ κs a r s. PrintsBy lent_text (L.loosen a.1.0 a.1.1.0.now a.1.1.1.0.now a.1.1.1.1.0.now a.1.1.1.1.1.0.now) a.0.now s.0.now (lent s.1.1.1.1.0.now s.1.1.1.1.1.0.now))
+  pub parsing : After parse-line.ended (λ M 𝓤. parse-line.clauses)
+      (λ κs a r s. Prints (L.parse a.1.0 a.1.1.0.now a.1.1.1.0.now) a.0.now s.0.now s.1.1.1.0.now)
+  pub rendering : After render-line.ended (λ M 𝓤. render-line.clauses)
+      (λ κs a r s. Prints (L.render a.1.0 a.1.1.0.now a.1.1.1.0.now) a.0.now s.0.now s.1.1.1.0.now)

@@ -61,12 +61,12 @@ fn largest(k: usize, i: usize) -> usize
     requires { (2 ≤ k) × (k ≤ 3) }
     ensures { result ≡ largest k 64 i }
 {
-    for m in 1..65 {
-        if combinations(m, k) > i {
-            return m - 1;
+    for m in (1..65).rev() {
+        if combinations(m, k) <= i {
+            return m;
         }
     }
-    64
+    0
 }
 
 // The triple with index i; beyond the 41,664 triples of 64 species there is none.

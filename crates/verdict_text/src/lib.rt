@@ -5,7 +5,7 @@ ghost use Rattle.std.specs.Prelude.{◌≡◌};
 ghost use Rattle.triples.specs.Named.{named};
 ghost use Rattle.bodies.specs.Draws.{tree_of};
 ghost use Rattle.answers.specs.Inputs.{Body, Count};
-ghost use Rattle.writing.specs.Texts.{wrote};
+ghost use Rattle.writing.specs.Pages.{wrote_on};
 ghost use Rattle.verdict_text.specs.Verdict.{closer_text, said_text, triple_text, verdict_text};
 
 use groups::Drawing;
@@ -13,8 +13,8 @@ use refusals::Refusal;
 use writing::Text;
 
 // Writes the line of a triplet that is not forced.
-fn put_closer<const ROOM: usize>(out: &mut Text<ROOM>, a: usize, b: usize, c: usize)
-    ensures { out.new ≡ wrote ROOM out.old (closer_text a b c) }
+fn put_closer(out: &mut Text, a: usize, b: usize, c: usize)
+    ensures { out.new ≡ wrote_on out.old (closer_text a b c) }
 {
     out.word(b"not forced by the papers: ");
     out.decimal(a as u64);
@@ -26,8 +26,8 @@ fn put_closer<const ROOM: usize>(out: &mut Text<ROOM>, a: usize, b: usize, c: us
 }
 
 // Writes the line of what a tree says of a triple.
-fn put_said<const ROOM: usize>(out: &mut Text<ROOM>, x: triples::Triple, s: groups::Says)
-    ensures { out.new ≡ wrote ROOM out.old (said_text x s) }
+fn put_said(out: &mut Text, x: triples::Triple, s: groups::Says)
+    ensures { out.new ≡ wrote_on out.old (said_text x s) }
 {
     match s {
         groups::Says::AB => put_closer(out, x.low, x.mid, x.high),
@@ -38,9 +38,9 @@ fn put_said<const ROOM: usize>(out: &mut Text<ROOM>, x: triples::Triple, s: grou
 }
 
 // Writes the line of what the tree of a good body says of the triple with index i.
-fn put_triple<const ROOM: usize>(out: &mut Text<ROOM>, body: &[u8], i: usize)
+fn put_triple(out: &mut Text, body: &[u8], i: usize)
     requires { Body 64 body.now }
-    ensures { out.new ≡ wrote ROOM out.old (triple_text (tree_of body.now) (named i)) }
+    ensures { out.new ≡ wrote_on out.old (triple_text (tree_of body.now) (named i)) }
 {
     if let Some(x) = triples::triple_at(i) {
         let mut groups = [0; bodies::MOST_NODES];
@@ -55,9 +55,9 @@ fn put_triple<const ROOM: usize>(out: &mut Text<ROOM>, body: &[u8], i: usize)
 }
 
 // Checks the tree of a good body, and writes the line of that.
-pub fn put_verdict<const ROOM: usize>(out: &mut Text<ROOM>, n: usize, t: &[u8], body: &[u8])
+pub fn put_verdict(out: &mut Text, n: usize, t: &[u8], body: &[u8])
     requires { Count n × Body n body.now }
-    ensures { out.new ≡ wrote ROOM out.old (verdict_text n t.now body.now) }
+    ensures { out.new ≡ wrote_on out.old (verdict_text n t.now body.now) }
 {
     match checking::check(n, t, body) {
         Ok(()) => out.word(b"every group is the papers' own\n"),

@@ -1,26 +1,28 @@
-// Text in a room of its own: what is written stands behind what is there, as far as there is room.
+// Text in lent bytes: what is written stands behind what is there, as far as there is room.
 #![tactic(auto, using(crate::proofs::Writing::writes))]
 
 ghost use Rattle.std.specs.Prelude.{◌≡◌, [], ◌∷◌, ◌<◌, ◌+◌, ℕ, length, map};
-ghost use Rattle.writing.specs.Texts.{decimal, spaced, wrote};
+ghost use Rattle.writing.specs.Texts.{decimal, spaced};
+ghost use Rattle.writing.specs.Pages.{Page, wrote_on};
 
 use std::marker::Model;
 
 // The bytes of a text are the first `len` of the room.
 #[derive(Drop)]
-pub struct Text<const ROOM: usize> {
-    bytes: [u8; ROOM],
+pub struct Text<'a> {
+    room: &'a mut [u8],
     len: usize,
 }
 
-impl<const ROOM: usize> Model for Text<ROOM> {
-    ghost use Rattle.std.specs.Prelude.{ℕ, List, ◌≤◌, take};
+impl<'a> Model for Text<'a> {
+    ghost use Rattle.std.specs.Prelude.{◌≤◌, length, take};
+    ghost use Rattle.writing.specs.Pages.{Page};
 
-    ghost Value = { List ℕ };
+    ghost Value = { Page };
 
-    ghost view = { λ s. take s.len s.bytes };
+    ghost view = { λ s. record { lent = s.room.ghost_name; room = length s.room.now; text = take s.len s.room.now } };
 
-    ghost invariant = { λ s. s.len ≤ ROOM };
+    ghost invariant = { λ s. s.len ≤ length s.room.now };
 }
 
 // A digit as a byte.
@@ -31,51 +33,55 @@ fn glyph(d: u64) -> u8
     b'0' + d as u8
 }
 
-impl<const ROOM: usize> Text<ROOM> {
-    // A text with no bytes.
-    pub fn new() -> Self
-        ensures { result ≡ [] }
+impl<'a> Text<'a> {
+    // A text with no bytes, where these are lent.
+    pub fn new(room: &'a mut [u8]) -> Text<'a>
+        ensures { result ≡ record { lent = room.entry.ghost_name; room = length room.old; text = [] } }
     {
-        Text {
-            bytes: [0; ROOM],
-            len: 0,
-        }
+        Text { room, len: 0 }
     }
 
     // The bytes of the text.
     pub fn as_slice(&self) -> &[u8]
-        ensures { result.now ≡ self.now }
+        ensures { result.now ≡ self.now.text }
     {
-        &self.bytes[..self.len]
+        &self.room[..self.len]
     }
 
     // How many bytes the text has.
     pub fn len(&self) -> usize
-        ensures { result ≡ length self.now }
+        ensures { result ≡ length self.now.text }
     {
         self.len
     }
 
+    // How many it may have.
+    pub fn room(&self) -> usize
+        ensures { result ≡ self.now.room }
+    {
+        self.room.len()
+    }
+
     // Takes all bytes away.
     pub fn clear(&mut self)
-        ensures { self.new ≡ [] }
+        ensures { self.new ≡ record self.old { text = [] } }
     {
         self.len = 0;
     }
 
     // Writes one byte.
     pub fn push(&mut self, b: u8)
-        ensures { self.new ≡ wrote ROOM self.old (b ∷ []) }
+        ensures { self.new ≡ wrote_on self.old (b ∷ []) }
     {
-        if self.len < ROOM {
-            self.bytes[self.len] = b;
+        if self.len < self.room.len() {
+            self.room[self.len] = b;
             self.len += 1;
         }
     }
 
     // Writes a word.
     pub fn word(&mut self, w: &[u8])
-        ensures { self.new ≡ wrote ROOM self.old w.now }
+        ensures { self.new ≡ wrote_on self.old w.now }
     {
         for b in w {
             self.push(*b);
@@ -84,7 +90,7 @@ impl<const ROOM: usize> Text<ROOM> {
 
     // Writes a number in decimal.
     pub fn decimal(&mut self, n: u64)
-        ensures { self.new ≡ wrote ROOM self.old (decimal n) }
+        ensures { self.new ≡ wrote_on self.old (decimal n) }
     {
         if n >= 10 {
             self.decimal(n / 10);
@@ -94,7 +100,7 @@ impl<const ROOM: usize> Text<ROOM> {
 
     // Writes a space and a number.
     pub fn spaced(&mut self, n: u64)
-        ensures { self.new ≡ wrote ROOM self.old (32 ∷ decimal n) }
+        ensures { self.new ≡ wrote_on self.old (32 ∷ decimal n) }
     {
         self.push(b' ');
         self.decimal(n);
@@ -102,7 +108,7 @@ impl<const ROOM: usize> Text<ROOM> {
 
     // Writes numbers in decimal, each after a space.
     pub fn numbers<T: Number>(&mut self, l: &[T])
-        ensures { self.new ≡ wrote ROOM self.old (spaced (map T.value l.now)) }
+        ensures { self.new ≡ wrote_on self.old (spaced (map T.value l.now)) }
     {
         for x in l {
             self.spaced(x.number());

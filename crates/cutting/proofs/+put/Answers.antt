@@ -7,8 +7,8 @@ use Rattle.bodies.proofs.Drawn.{subtree-below}
 use Rattle.bodies.specs.Draws.{subtree}
 use Rattle.bodies.specs.Nodes.{nodes}
 use Rattle.children.proofs.Walk.{over_gives, over_on}
-use Rattle.writing.specs.Texts.{decimal, wrote}
-use Rattle.rendering.specs.Texts.{text_room}
+use Rattle.writing.specs.Pages.{wrote_on}
+use Rattle.writing.specs.Texts.{decimal}
 use Rattle.cutting.proofs.InTurn.{Next, leaf_text, same_text, todo_end, todo_next, todo_start}
 use Rattle.cutting.proofs.Touching.{meet_empty, meet_touches}
 use Rattle.cutting.proofs.+put.Goals.{In-Some, After-meet}
@@ -43,14 +43,14 @@ module _ {t : ℕ} where
 pub returns-then-s : goal.returns-then-s
 returns-then-s t c =
     let e = leaf_text (nodes c.args.tree.body.now) c.args.tree.good (has c.args.set) c.descend-top.ensures c.requires.touches (λ z. c.if-s.true (c.species-s.ensures ∙ z)) in
-    c.decimal.ensures ∙ ap (λ (x : ℕ). wrote text_room c.args.draft.now (decimal x)) (c.from.ensures ∙ c.species-s.ensures) ∙ ap (wrote text_room c.args.draft.now) e
+    c.decimal.ensures ∙ ap (λ (x : ℕ). wrote_on c.args.out.now (decimal x)) (c.from.ensures ∙ c.species-s.ensures) ∙ ap (wrote_on c.args.out.now) e
 
 pub loop-c-init : goal.loop-c-init
 loop-c-init t c =
     let a = c.args in (
       record { tree = cc; node = cc },
       todo_start (nodes a.tree.body.now) a.tree.good (has a.set) c.descend-top.ensures c.requires.touches a.tree.groups.now a.tree.groups_are
-          (sym c.species-s.ensures ∙ c.if-s.false) text_room a.draft.now _ (cc),
+          (sym c.species-s.ensures ∙ c.if-s.false) a.out.now _ (cc),
     )
 
 pub put-requires : goal.put-requires
@@ -79,4 +79,4 @@ returns t c =
     let v = nodes c.args.tree.body.now in
     todo_end v c.args.tree.good (has c.args.set) c.args.tree.groups.now c.args.tree.groups_are c.loop-c.invariant.1
     c.next.new.self.rest (over_gives c.loop-c.invariant.0 c.in-None.ensures.steps) _ c.push-2.ensures
-    ∙ ap (wrote text_room c.args.draft.now) (same_text v c.args.tree.good (has c.args.set) c.descend-top.ensures c.requires.touches)
+    ∙ ap (wrote_on c.args.out.now) (same_text v c.args.tree.good (has c.args.set) c.descend-top.ensures c.requires.touches)

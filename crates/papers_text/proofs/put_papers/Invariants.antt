@@ -1,8 +1,8 @@
 -- What was written are the lines of the first k papers.
 use Rattle.std.proofs.Common.{◌≡◌}
-use Rattle.writing.specs.Texts.{wrote}
+use Rattle.writing.specs.Pages.{wrote_on}
 use Rattle.papers_text.specs.Lines.{papers_text}
 use Rattle.papers_text.proofs.put_papers.Given as goal
 
 abbrev pub invariant-loop-k : goal.invariant-loop-k
-invariant-loop-k g l = l.out ≡ wrote g.row.ROOM l.initial.out (papers_text l.c l.k)
+invariant-loop-k l = l.out ≡ wrote_on l.initial.out (papers_text l.c l.k)

@@ -3,9 +3,9 @@
 use Rattle.std.proofs.Common.{ℕ, sym, ap, ◌∙◌, arith}
 use Rattle.bodies.specs.Nodes.{nodes}
 use Rattle.children.proofs.Walk.{over_gives, over_on}
-use Rattle.writing.specs.Texts.{decimal, wrote}
+use Rattle.writing.specs.Pages.{wrote_on}
+use Rattle.writing.specs.Texts.{decimal}
 use Rattle.rendering.proofs.InTurn.{Next, leaf_text, todo_end, todo_next, todo_start}
-use Rattle.rendering.specs.Texts.{text_room}
 use Rattle.rendering.proofs.+put.Goals.{In-Some}
 use Rattle.rendering.proofs.+put.Goals as goal
 
@@ -18,14 +18,14 @@ next_child c =
 pub returns-then-s : goal.returns-then-s
 returns-then-s t c =
     let e = leaf_text (nodes c.args.tree.body.now) c.args.tree.good c.args.i c.requires.i_bound (λ z. c.if-s.true (c.species-s.ensures ∙ z)) in
-    c.decimal.ensures ∙ ap (λ (x : ℕ). wrote text_room c.args.draft.now (decimal x)) (c.from.ensures ∙ c.species-s.ensures) ∙ ap (wrote text_room c.args.draft.now) e
+    c.decimal.ensures ∙ ap (λ (x : ℕ). wrote_on c.args.draft.now (decimal x)) (c.from.ensures ∙ c.species-s.ensures) ∙ ap (wrote_on c.args.draft.now) e
 
 pub loop-c-init : goal.loop-c-init
 loop-c-init t c =
     let a = c.args in (
       record { tree = cc; node = cc },
       todo_start (nodes a.tree.body.now) a.tree.good a.i c.requires.i_bound a.tree.groups.now a.tree.groups_are
-          (sym c.species-s.ensures ∙ c.if-s.false) text_room a.draft.now _ (cc),
+          (sym c.species-s.ensures ∙ c.if-s.false) a.draft.now _ (cc),
     )
 
 pub put-requires : goal.put-requires

@@ -3,11 +3,10 @@ use Rattle.std.proofs.Common.{◌-◌}
 use Rattle.bodies.specs.Nodes.{nodes}
 use Rattle.children.proofs.Walk.{Over}
 use Rattle.rendering.proofs.InTurn.{Todo}
-use Rattle.rendering.specs.Texts.{text_room}
 use Rattle.rendering.proofs.+put.Given as goal
 
 abbrev pub decreases-put : goal.decreases-put
 decreases-put l = (nodes l.tree.body.now).count - l.i
 
 abbrev pub invariant-loop-c : goal.invariant-loop-c
-invariant-loop-c l = Over l.tree l.i l.c-iterator × Todo (nodes l.tree.body.now) l.i text_room l.initial.draft l.draft l.mark l.c-iterator.rest
+invariant-loop-c l = Over l.tree l.i l.c-iterator × Todo (nodes l.tree.body.now) l.i l.initial.draft l.draft l.mark l.c-iterator.rest

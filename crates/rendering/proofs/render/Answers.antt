@@ -10,7 +10,8 @@ use Rattle.answers.specs.Looks.{first_refusal, look_count, look_length, look_roo
 use Rattle.answers.specs.Looks.{Look}
 use Rattle.refusals.specs.declared.Refusal.TheVariants.{ShortRoom}
 use Rattle.children.proofs.Ready.{Ready, is_ready}
-use Rattle.writing.proofs.Writing.{writes, wrote_alone}
+use Rattle.writing.proofs.Writing.{whole_on, writes}
+use Rattle.writing.specs.Pages.{Page}
 use Rattle.rendering.specs.Texts.{newick_text, text_room}
 use Rattle.rendering.proofs.Texts.{body_longest}
 use Rattle.rendering.proofs.render.Goals.{After-push}
@@ -33,8 +34,8 @@ ready n body k g = is_ready n body k.most g.good g.long
 -- once the text stands in the draft
 module _ (c : After-push) (count : Count c.args.n) (good : Body c.args.n c.args.body.now) where
   -- it is whole, since it fits
-  whole : c.push.new.self ≡ newick_text c.args.body.now
-  whole = simp (c.push.ensures, c.put.ensures, c.new-draft.ensures, writes) (wrote_alone text_room (newick_text c.args.body.now) (body_longest count good))
+  whole : c.push.new.self.text ≡ newick_text c.args.body.now
+  whole = simp (c.push.ensures, c.put.ensures, c.new-draft.ensures, writes) (ap (λ (p : Page). p.text) (whole_on (record { lent = _; room = text_room; text = [] }) (newick_text c.args.body.now) (body_longest count good)))
 
 -- ---- the answers
 

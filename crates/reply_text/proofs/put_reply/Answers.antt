@@ -4,4 +4,4 @@ use Rattle.writing.proofs.Writing.{writes}
 use Rattle.reply_text.proofs.put_reply.Goals as goal
 
 pub returns : goal.returns
-returns g c = simp (c.put_rule.ensures, c.numbers.ensures, c.as_slice.ensures.value, c.decimal.ensures, writes, append_assoc)
+returns c = simp (c.put_rule.ensures, c.numbers.ensures, c.as_slice.ensures.value, c.decimal.ensures, writes, append_assoc)

@@ -7,7 +7,7 @@ use Rattle.sending.specs.Words.{dropped_word}
 use Rattle.sending.proofs.put_dropped.Goals as goal
 
 pub loop-s-preserved : goal.loop-s-preserved
-loop-s-preserved g c =
+loop-s-preserved c =
     let l = c.args.l.now in
     let i = c.loop-s.s-index in
     let one = take_more l i 0 c.loop-s-test.true in

@@ -5,4 +5,4 @@ use Rattle.sending.proofs.send.Goals as goal
 
 pub returns : goal.returns
 unfolding send_text
-returns g c = simp (c.put_sent.ensures, c.put_verdict.ensures, writes)
+returns c = simp (c.put_sent.ensures, c.put_verdict.ensures, writes)

@@ -6,7 +6,7 @@ use Rattle.shelf_text.proofs.Told.{two}
 use Rattle.shelf_text.proofs.body_lines.Goals as goal
 
 pub returns : goal.returns
-returns g c =
+returns c =
     let h = c.answer.ensures in
     let e = ap (line check_word) (ap₂ shown_numbers h.number h.values ∙ ap check_numbers c.check-a.ensures) in
-    two g.row.ROOM c.args.out.now _ _ _ _ _ c.put_body.ensures c.put_shown.ensures e
+    two c.args.out.now _ _ _ _ _ c.put_body.ensures c.put_shown.ensures e

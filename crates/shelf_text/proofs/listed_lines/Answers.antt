@@ -11,8 +11,7 @@ use Rattle.collections.specs.Layout.{species, trees}
 use Rattle.listing.specs.Lists.{list_of, said_up_to}
 use Rattle.shelf_text.specs.Shelf.{table_text}
 use Rattle.shelf_text.proofs.Told.{list_whole}
-use Rattle.writing.specs.Texts.{wrote}
-use Rattle.shelf_text.proofs.listed_lines.Given.{Over}
+use Rattle.writing.specs.Pages.{wrote_on}
 use Rattle.shelf_text.proofs.listed_lines.Goals as goal
 use Rattle.shelf_text.proofs.listed_lines.Goals.{After-list}
 
@@ -23,7 +22,7 @@ inside n k b t l w e =
     omega (arith, e, C-more 3 n 64 few, C-64_3, l)
 
 -- what the listing wrote
-whole : {g : Over} (c : After-list g) → c.list.new.t ≡ list_of c.args.b.now
+whole : (c : After-list) → c.list.new.t ≡ list_of c.args.b.now
 whole c =
     let b = c.args.b.now in
     let s = c.requires.collection in
@@ -31,28 +30,28 @@ whole c =
     c.list.ensures.holds ∙ list_whole b s.0 (take c.count-k.result c.args.table.now) e
 
 -- it is as long as the front
-whole_length : {g : Over} (c : After-list g) → length c.list.new.t ≡ c.count-k.result
+whole_length : (c : After-list) → length c.list.new.t ≡ c.count-k.result
 whole_length c =
     let b = c.args.b.now in
     ap length (whole c) ∙ table_length (species b) (said_up_to b (trees b)) ∙ ap (λ (n : ℕ). C n 3) (sym c.requires.collection.1) ∙ sym c.count-k.ensures
 
 pub slice_bounds-list-end : goal.slice_bounds-list-end
-slice_bounds-list-end g c = inside _ _ _ _ c.requires.table_len c.requires.collection c.count-k.ensures
+slice_bounds-list-end c = inside _ _ _ _ c.requires.table_len c.requires.collection c.count-k.ensures
 
 pub slice_bounds-list-end-2 : goal.slice_bounds-list-end-2
-slice_bounds-list-end-2 g c = sym (length-take-le _ _ (inside _ _ _ _ c.requires.table_len c.requires.collection c.count-k.ensures))
+slice_bounds-list-end-2 c = sym (length-take-le _ _ (inside _ _ _ _ c.requires.table_len c.requires.collection c.count-k.ensures))
 
 pub slice_bounds-build_lines-end : goal.slice_bounds-build_lines-end
-slice_bounds-build_lines-end g c =
-    omega (arith, length-append c.list.new.t (drop c.count-k.result c.args.table.now), whole_length (goal.at.slice_bounds-build_lines-end g c).After-list)
+slice_bounds-build_lines-end c =
+    omega (arith, length-append c.list.new.t (drop c.count-k.result c.args.table.now), whole_length (goal.at.slice_bounds-build_lines-end c).After-list)
 
 pub slice_bounds-build_lines-end-2 : goal.slice_bounds-build_lines-end-2
-slice_bounds-build_lines-end-2 g c =
-    let e = whole_length (goal.at.slice_bounds-build_lines-end-2 g c).After-list in
+slice_bounds-build_lines-end-2 c =
+    let e = whole_length (goal.at.slice_bounds-build_lines-end-2 c).After-list in
     sym (ap length (take_at c.list.new.t _ c.count-k.result e) ∙ e)
 
 pub returns : goal.returns
-returns g c =
-    let l = (goal.at.returns g c).After-list in
+returns c =
+    let l = (goal.at.returns c).After-list in
     let e = take_at c.list.new.t _ c.count-k.result (whole_length l) ∙ whole l in
-    c.build_lines.ensures ∙ ap (λ (t : List ℕ). wrote g.row.ROOM c.args.out.now (table_text c.args.n c.args.set t)) e
+    c.build_lines.ensures ∙ ap (λ (t : List ℕ). wrote_on c.args.out.now (table_text c.args.n c.args.set t)) e

@@ -5,9 +5,9 @@ use Rattle.species_text.proofs.Rendered.{not_refused, text_is}
 use Rattle.species_text.proofs.put_tree.Goals as goal
 
 pub returns-in-Ok : goal.returns-in-Ok
-returns-in-Ok g c =
+returns-in-Ok c =
     let is = text_is c.requires.0 c.requires.1 (omega arith) c.render.ensures c.in-Ok.x c.in-Ok.is in
     simp (c.push.ensures, c.word-in-Ok.ensures, c.word.ensures, is, writes)
 
 pub returns-in-Err : goal.returns-in-Err
-returns-in-Err g c = absurd (not_refused c.requires.0 c.requires.1 (omega arith) c.render.ensures c.in-Err.field-0 c.in-Err.is)
+returns-in-Err c = absurd (not_refused c.requires.0 c.requires.1 (omega arith) c.render.ensures c.in-Err.field-0 c.in-Err.is)

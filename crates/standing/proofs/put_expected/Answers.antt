@@ -6,7 +6,7 @@ use Rattle.standing.proofs.put_expected.Goals.{then-may_stand, else-may_stand}
 use Rattle.standing.proofs.put_expected.Goals as goal
 
 pub loop-sign-preserved : goal.loop-sign-preserved
-loop-sign-preserved g c =
+loop-sign-preserved c =
     let k = c.loop-sign.sign-index in
     let t = c.args.text.now in
     let q = c.args.q in

@@ -1,13 +1,13 @@
 -- The line of the answer and of what was lent. Assumes nothing.
 use Rattle.std.proofs.Common.{ap, ◌∙◌}
 use Rattle.rendering.specs.Renders.{render_told}
-use Rattle.writing.specs.Texts.{wrote}
+use Rattle.writing.specs.Pages.{wrote_on}
 use Rattle.reply_text.proofs.Pieces.{barred-line}
 use Rattle.tree_lines.specs.Lines.{render_line}
 use Rattle.tree_lines.proofs.render_line.Goals as goal
 
 pub returns-clause-writes : goal.returns-clause-writes
 unfolding render_line
-returns-clause-writes g c =
+returns-clause-writes c =
     let a = c.render-a.ensures in
-    c.put_barred.ensures ∙ ap (wrote g.row.ROOM c.args.out.now) (barred-line render_told c.answer.ensures a.is a.holds)
+    c.put_barred.ensures ∙ ap (wrote_on c.args.out.now) (barred-line render_told c.answer.ensures a.is a.holds)

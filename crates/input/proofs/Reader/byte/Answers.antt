@@ -1,14 +1,22 @@
 -- The byte stands in the buffer, or in the next one. Assumes nothing.
-use Rattle.std.proofs.Common.{arith, ◌<◌, inl, inr, refl}
-use Rattle.input.proofs.Reading.{none_left, took_from, took_next}
+use Rattle.std.proofs.Common.{arith, ◌<◌, ◌≡◌, true, ap, inl, inr, refl, sym, ◌∙◌}
+use Rattle.input.proofs.Reading.{none_left, took_from, took_next, whole_here}
+use Rattle.input.specs.Inputs.{whole}
 use Rattle.input.proofs.Reader.byte.Goals as goal
 use Rattle.input.proofs.Reader.byte.Goals.{then-self+in_ok-refill, else-self}
 
 pub returns-in_err-refill : goal.returns-in_err-refill
-returns-in_err-refill c = rw c.from_residual.ensures (none_left _ c.if-self.true)
+returns-in_err-refill c = rw c.from_residual.ensures (none_left _ c.if-self.true, c.in_err-refill.ensures)
 
 pub returns : goal.returns
 returns c =
     let q = c.if-self.self in
     let h : q.at < q.end = elim c.if-self.branch [ then-self+in_ok-refill w ↦ omega arith | else-self w ↦ let b = q.in_buffer.0 in omega arith ] in
-    took_from (elim c.if-self.branch [ then-self+in_ok-refill w ↦ inr w.if-self.true | else-self w ↦ inl w.self-is ]) (took_next q _ h refl refl refl)
+    let old : whole c.args.self.now ≡ true
+    = elim c.if-self.branch [ then-self+in_ok-refill w ↦ w.in_ok-refill.ensures.2 | else-self w ↦ sym (ap whole w.self-is) ∙ whole_here q h ] in (
+      old,
+      took_from (elim c.if-self.branch [
+        | then-self+in_ok-refill w ↦ inr (w.if-self.true, ap whole w.self-is ∙ w.in_ok-refill.ensures.3 ∙ sym w.in_ok-refill.ensures.2)
+        | else-self w ↦ inl w.self-is
+      ]) (took_next q _ h refl refl refl refl),
+    )

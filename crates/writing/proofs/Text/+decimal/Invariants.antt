@@ -2,4 +2,4 @@
 use Rattle.writing.proofs.Text.+decimal.Given as goal
 
 abbrev pub decreases-decimal : goal.decreases-decimal
-decreases-decimal g l = l.n
+decreases-decimal l = l.n
