@@ -2,7 +2,7 @@
  * Koodhaxil for C99 and C++: groups of species from published rooted trees, by triplets ab|c.
  *
  * `.ci/built exports_c` writes target/staticlib/libexports.a for x86-64 Linux; compile with this folder on the include path, and link the
- * archive. Of the C library it uses memcpy, memmove and memset. It takes no memory but the stack, keeps nothing from one call to the next, and always
+ * archive. Of the C library it uses memcpy and memset. It takes no memory but the stack, keeps nothing from one call to the next, and always
  * returns. `example.c` beside this file uses every function.
  *
  *

@@ -73,5 +73,5 @@ rest_both k s e = some_both λ t u p q. record {
 }
 
 -- the byte of a call, and what follows it
-pub call_read : {r q : Reader} {k : ℕ} (s : Reader) (f : Fields) (c : Call) → whole r ≡ true → Took r (k ∷ []) q → TookSome (λ t. CallBytes c.byte c.numbers (read_fields c f) (k ∷ t)) q s → ReadCall r c s (read_fields c f)
-call_read s f c w p q = record { whole = w; bytes = some_took (took_both p q.took) q.are }
+pub call_read : {r q : Reader} {k : ℕ} (s : Reader) (f : Fields) (c : Call) → whole s ≡ true → Took r (k ∷ []) q → TookSome (λ t. CallBytes c.byte c.numbers (read_fields c f) (k ∷ t)) q s → ReadCall r c s (read_fields c f)
+call_read s f c w p q = let b = took_both p q.took in record { whole = sym b.uncut ∙ w; bytes = some_took b q.are }

@@ -93,8 +93,8 @@ pub fn read_call(reader: &mut Reader, fields: &mut Fields) -> Result<Call, NoCal
 {
     let byte = reader.byte().ok_or(NoCall::End)?;
     match read_rest(reader, byte, fields) {
-        Some(call) => Ok(call),
-        None => {
+        Some(call) if reader.whole => Ok(call),
+        _ => {
             reader.cut();
             Err(NoCall::Cut)
         }

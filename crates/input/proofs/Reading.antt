@@ -1,5 +1,4 @@
 -- Bytes are read one after the other. Assumes nothing.
-use mathlib.Core.Bool.{Bool, false, true}
 use mathlib.Core.List.{List, [], ◌∷◌, ◌++◌, append_assoc, append-nil}
 use mathlib.Core.Logic.{◌⊎◌, inl, inr}
 use mathlib.Core.Path.{◌∙◌, ◌≡◌, ap, refl, subst, sym}
@@ -59,11 +58,3 @@ some_none r p = some_took (took_none r) p
 -- first some were read, and then others
 pub some_both : {P Q R : List ℕ → Type 0} {i j k : Reader} → ((s t : List ℕ) → P s → Q t → R (s ++ t)) → TookSome P i j → TookSome Q j k → TookSome R i k
 some_both f p q = some_took (took_both p.took q.took) (f p.bytes q.bytes p.are q.are)
-
--- where something is left in the buffer, nothing was cut
-pub whole_here : (r : Reader) → r.at < r.end → whole r ≡ true
-whole_here r h = by r.whole refl
-  where
-    by : (b : Bool) → r.whole ≡ b → r.whole ≡ true
-    by true e = e
-    by false e = let z = r.cut e in absurd (omega arith)

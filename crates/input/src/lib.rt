@@ -9,13 +9,12 @@ use std::io::{Read, Stdin};
 // once it was not, nothing more is read.
 #[derive(Drop)]
 pub struct Reader<'a> {
-    stdin: Stdin,
-    buffer: &'a mut [u8],
-    at: usize,
-    end: usize,
-    whole: bool,
+    pub stdin: Stdin,
+    pub buffer: &'a mut [u8],
+    pub at: usize,
+    pub end: usize,
+    pub whole: bool,
     ghost in_buffer: { (at ≤ end) × (end ≤ length buffer.now) },
-    ghost cut: { whole ≡ false → at ≡ end },
 }
 
 impl<'a> Reader<'a> {
@@ -62,9 +61,9 @@ impl<'a> Reader<'a> {
         Some(())
     }
 
-    // Reads a byte; where the buffer is used up, it is read anew. There is none where the input has ended, or something was not there before.
+    // Reads a byte; where the buffer is used up, it is read anew. There is none where, with it used up, the input has ended or something was not there before.
     pub fn byte(&mut self) -> Option<u8>
-        ensures { MatchOption result ((buffered self.old ≡ []) × (whole self.new ≡ false)) (λ x. (whole self.old ≡ true) × Took self.old (x ∷ []) self.new) }
+        ensures { MatchOption result ((buffered self.old ≡ []) × (whole self.new ≡ false)) (λ x. Took self.old (x ∷ []) self.new) }
     {
         if self.at == self.end {
             self.refill()?;

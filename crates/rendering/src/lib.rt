@@ -1,10 +1,10 @@
 // A tree's body as Newick text, in house order, without lengths or blanks.
 #![tactic(auto, using(writing::proofs::Writing::writes))]
 
-ghost use Rattle.std.specs.Prelude.{◌≡◌, ◌<◌};
+ghost use Rattle.std.specs.Prelude.{◌≡◌, ◌<◌, ◌≤◌, length};
 ghost use Rattle.trees.specs.Trees.{house};
 ghost use Rattle.bodies.specs.Nodes.{nodes};
-ghost use Rattle.bodies.specs.Draws.{subtree};
+ghost use Rattle.bodies.specs.Draws.{subtree, written};
 ghost use Rattle.writing.specs.Pages.{wrote_on};
 ghost use Rattle.rendering.specs.Texts.{subtree_text};
 ghost use Rattle.rendering.specs.Renders.{Renders};
@@ -39,6 +39,17 @@ fn put(tree: groups::Grouped, i: usize, draft: &mut writing::Text)
     draft.push(b')');
 }
 
+// Copies the text to the front of the room, byte by byte: where the bytes of a text lie is not known here, so that copy_from_slice would have who links the
+// library bring memmove.
+fn copy(text: &[u8], room: &mut [u8])
+    requires { length text.now ≤ length room.old }
+    ensures { room.new ≡ written room.old text.now }
+{
+    for i in 0..text.len() {
+        room[i] = text[i];
+    }
+}
+
 // Writes a tree with n species at most as Newick text to the front of the room. A refusal leaves every byte as it was: the text is written into a draft,
 // which is copied once the room is known to be long enough.
 pub fn render(n: usize, body: &[u8], room: &mut [u8]) -> Result<Text, Refusal>
@@ -60,6 +71,6 @@ pub fn render(n: usize, body: &[u8], room: &mut [u8]) -> Result<Text, Refusal>
     if room.len() < end {
         return Err(Refusal::ShortRoom);
     }
-    room[..end].copy_from_slice(draft.as_slice());
+    copy(draft.as_slice(), room);
     Ok(Text { length: end })
 }

@@ -2,17 +2,16 @@
 use mathlib.Core.Bool.{Bool, cond, false, true}
 use mathlib.Core.List.{List, [], ◌∷◌}
 use mathlib.Core.Logic.{◌↔◌}
-use mathlib.Core.Path.{◌∙◌, ◌≡◌, ap, refl, sym}
+use mathlib.Core.Path.{◌∙◌, ◌≡◌, ap, refl}
 use Prim.Native.Nat.{◌+◌, ◌<◌, ◌≤◌, suc, zero, ℕ}
+use native.Mathlib.Numerals.{add-one}
 use native.Mathlib.Omega.{arith}
 use borrow.Author.Tests.{le-ltb, lt-ltb, ltb-false, ltb-true, not-true}
 use lib.Dec.{ltb}
-use lib.ListN.{get_or, length}
+use lib.ListN.{drop, get_or, length}
+use lib.Seq.{drop-cons}
 use Rattle.sets.proofs.Bools.{test}
-use Rattle.std.proofs.lemmas.List.Recursion.{is_position_or_len}
-use Rattle.std.specs.List.{position}
-use Rattle.std.specs.Prelude.{None, Some}
-use Rattle.tables.specs.Bytes.{Small, first_over, over, top, wrong_byte}
+use Rattle.tables.specs.Bytes.{Small, over, top, wrong_byte}
 
 module _ (v : ℕ) (t : List ℕ) where
   over_yes : top < v → over (v ∷ t) ≡ 0
@@ -23,11 +22,16 @@ module _ (v : ℕ) (t : List ℕ) where
   unfolding over
   over_no h = ap (λ (b : Bool). cond b 0 (suc (over t))) (le-ltb top v h)
 
--- std's words for the first place that passes a test
-pub first_over_is : (t : List ℕ) → position (ltb top) t ≡ first_over t
-unfolding over
-first_over_is t = ap (λ (k : ℕ). cond (ltb k (length t)) (Some k) None) (sym (is_position_or_len over (ltb top) refl (λ v u.
-    let e : suc (over u) ≡ 1 + over u = omega arith in ap (λ (k : ℕ). cond (ltb top v) 0 k) e) t))
+-- ---- the search from the front
+
+module _ (t : List ℕ) (i : ℕ) (l : i < length t) where
+  pub over_here : top < get_or t i 0 → i + over (drop i t) ≡ i
+  over_here h = omega (arith, ap over (drop-cons t i 0 l), over_yes (get_or t i 0) (drop (suc i) t) h)
+
+  pub over-next : Small (get_or t i 0) → i + over (drop i t) ≡ i + 1 + over (drop (i + 1) t)
+  over-next h =
+      let q : over (drop (i + 1) t) ≡ over (drop (suc i) t) = ap (λ (k : ℕ). over (drop k t)) (add-one i) in
+      omega (arith, ap over (drop-cons t i 0 l), over_no (get_or t i 0) (drop (suc i) t) h)
 
 -- ---- every byte is small
 

@@ -63,7 +63,12 @@ fn hold(t: &mut [u8], i: usize, v: u8)
 pub fn over(t: &[u8]) -> Option<usize>
     ensures { result ≡ first_over t.now }
 {
-    t.iter().position(|v| *v > TOP)
+    for i in 0..t.len() {
+        if held(t, i) > TOP {
+            return Some(i);
+        }
+    }
+    None
 }
 
 // The byte of the triple a < b < c; 0 where the table does not have it.
@@ -127,5 +132,7 @@ pub fn add(t: &mut [u8], a: usize, b: usize, c: usize, bits: u8)
 pub fn clear(t: &mut [u8])
     ensures { t.new ≡ replicate (length t.old) 0 }
 {
-    t.fill(0);
+    for i in 0..t.len() {
+        hold(t, i, 0);
+    }
 }

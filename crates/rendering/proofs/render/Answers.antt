@@ -1,8 +1,7 @@
 -- `rendering::render` meets its contract: what the looks refuse, a short room, and what is written where nothing is refused. Assumes nothing.
-use Rattle.std.proofs.Common.{List, ℕ, ◌∷◌, [], ◌++◌, length, ◌≡◌, ◌≤◌, refl, sym, ap, ap₂, ◌∙◌, arith}
+use Rattle.std.proofs.Common.{List, ℕ, ◌∷◌, [], length, ◌≡◌, ◌≤◌, refl, sym, ap, ◌∙◌, arith}
 use borrow.Author.Tests.{le-ltb, lt-ltb}
-use lib.ListN.{drop}
-use Rattle.bodies.proofs.Written.{written-cut}
+use Rattle.bodies.specs.Draws.{written}
 use Rattle.answers.proofs.Answered.{first_on, is_done, is_refused, then_pass}
 use Rattle.answers.proofs.Good.{body_pass, count_pass}
 use Rattle.answers.specs.Inputs.{Body, Count}
@@ -72,4 +71,4 @@ returns c =
     let fit : length (newick_text body) ≤ length room = omega (arith, c.if-room-end.false, long) in
     is_done (first_on (early n body) (late body room) (passed n body k g) ∙ rw (le-ltb (length room) (length (newick_text body)) fit) refl)
     (ap (λ (j : ℕ). record { length = j }) long)
-    (ap₂ (λ (t : List ℕ) (j : ℕ). t ++ drop j room) (c.copy_from_slice.ensures.after ∙ c.as_slice.ensures ∙ w) long ∙ sym (written-cut room (newick_text body) fit))
+    (c.copy.ensures ∙ ap (written room) (c.as_slice.ensures ∙ w))

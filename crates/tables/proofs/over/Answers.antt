@@ -1,11 +1,19 @@
--- `position` finds the first place whose byte is over the top, and `over` is that place. Assumes nothing.
-use Rattle.std.proofs.Common.{◌∙◌, rules, tests}
-use Rattle.std.proofs.lemmas.Iterator.{YieldsList-from_slice}
-use Rattle.std.proofs.lemmas.Iterator.Search.{position_from_yields_List}
-use Rattle.tables.proofs.Limits.{first_over_is}
+-- The first byte over the top is the one at place `i`, or the search goes on behind it. Assumes nothing.
+use Rattle.std.proofs.Common.{◌≡◌, arith, length, refl, sym}
+use borrow.Author.Tests.{lt-ltb}
+use Rattle.tables.specs.Bytes.{over}
+use Rattle.tables.proofs.Limits.{over_here, over-next}
 use Rattle.tables.proofs.over.Goals as goal
 
-pub returns : goal.returns
-returns c =
-    position_from_yields_List _ _ _ _ c.position.ensures.ran (YieldsList-from_slice c.args.t.now cc) (λ x b q k. search (rules, tests))
-    ∙ first_over_is c.args.t.now
+pub returns-then-held-gt-TOP : goal.returns-then-held-gt-TOP
+returns-then-held-gt-TOP c =
+    let t = c.args.t.now in
+    let i = c.loop-i.i in
+    let e : over t ≡ i = omega (arith, c.loop-i.invariant, over_here t i (omega arith) (omega (arith, c.held.ensures))) in
+    sym (rw (e, lt-ltb i (length t) (omega arith)) refl)
+
+pub loop-i-preserved : goal.loop-i-preserved
+loop-i-preserved c =
+    let t = c.args.t.now in
+    let i = c.loop-i.i in
+    omega (arith, c.loop-i.invariant, over-next t i (omega arith) (omega (arith, c.held.ensures)))

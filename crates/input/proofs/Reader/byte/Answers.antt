@@ -1,6 +1,6 @@
 -- The byte stands in the buffer, or in the next one. Assumes nothing.
-use Rattle.std.proofs.Common.{arith, ◌<◌, ◌≡◌, true, ap, inl, inr, refl, sym, ◌∙◌}
-use Rattle.input.proofs.Reading.{none_left, took_from, took_next, whole_here}
+use Rattle.std.proofs.Common.{arith, ◌<◌, ap, inl, inr, refl, sym, ◌∙◌}
+use Rattle.input.proofs.Reading.{none_left, took_from, took_next}
 use Rattle.input.specs.Inputs.{whole}
 use Rattle.input.proofs.Reader.byte.Goals as goal
 use Rattle.input.proofs.Reader.byte.Goals.{then-self+in_ok-refill, else-self}
@@ -12,11 +12,7 @@ pub returns : goal.returns
 returns c =
     let q = c.if-self.self in
     let h : q.at < q.end = elim c.if-self.branch [ then-self+in_ok-refill w ↦ omega arith | else-self w ↦ let b = q.in_buffer.0 in omega arith ] in
-    let old : whole c.args.self.now ≡ true
-    = elim c.if-self.branch [ then-self+in_ok-refill w ↦ w.in_ok-refill.ensures.2 | else-self w ↦ sym (ap whole w.self-is) ∙ whole_here q h ] in (
-      old,
-      took_from (elim c.if-self.branch [
-        | then-self+in_ok-refill w ↦ inr (w.if-self.true, ap whole w.self-is ∙ w.in_ok-refill.ensures.3 ∙ sym w.in_ok-refill.ensures.2)
-        | else-self w ↦ inl w.self-is
-      ]) (took_next q _ h refl refl refl refl),
-    )
+    took_from (elim c.if-self.branch [
+      | then-self+in_ok-refill w ↦ inr (w.if-self.true, ap whole w.self-is ∙ w.in_ok-refill.ensures.3 ∙ sym w.in_ok-refill.ensures.2)
+      | else-self w ↦ inl w.self-is
+    ]) (took_next q _ h refl refl refl refl)

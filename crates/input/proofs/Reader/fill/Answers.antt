@@ -7,4 +7,4 @@ use Rattle.input.proofs.Reader.fill.Goals as goal
 pub loop-slot-preserved : goal.loop-slot-preserved
 loop-slot-preserved c =
     let h : c.loop-slot.slot-index < length c.loop-slot.to = omega arith in
-    rw (add-one, take-suc-set) (took_both c.loop-slot.invariant c.in_ok-slot.ensures.1)
+    rw (add-one, take-suc-set) (took_both c.loop-slot.invariant c.in_ok-slot.ensures)
