@@ -1,7 +1,7 @@
 // Text in lent bytes: what is written stands behind what is there, as far as there is room.
 #![tactic(auto, using(crate::proofs::Writing::writes))]
 
-ghost use Rattle.std.specs.Prelude.{◌≡◌, [], ◌∷◌, ◌<◌, ◌+◌, ℕ, length, map};
+ghost use Rattle.std.specs.Prelude.{◌≡◌, [], ◌∷◌, ◌<◌, ◌+◌, ℕ, length, map, take};
 ghost use Rattle.writing.specs.Texts.{decimal, spaced};
 ghost use Rattle.writing.specs.Pages.{Page, wrote_on};
 
@@ -38,7 +38,15 @@ impl<'a> Text<'a> {
     pub fn new(room: &'a mut [u8]) -> Text<'a>
         ensures { result ≡ record { lent = room.entry.ghost_name; room = length room.old; text = [] } }
     {
-        Text { room, len: 0 }
+        Text::behind(room, 0)
+    }
+
+    // A text that stands there already: the first `at` bytes, or all of them, where there are fewer.
+    pub fn behind(room: &'a mut [u8], at: usize) -> Text<'a>
+        ensures { result ≡ record { lent = room.entry.ghost_name; room = length room.old; text = take at room.old } }
+    {
+        let len = at.min(room.len());
+        Text { room, len }
     }
 
     // The bytes of the text.
