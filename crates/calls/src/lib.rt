@@ -2,7 +2,7 @@
 #![tactic(auto)]
 
 ghost use Rattle.std.specs.Prelude.{◌≡◌, [], ◌∷◌, ◌≤◌, length, take, IfOk, IfSome, OnErr, Err, false};
-ghost use Rattle.input.specs.Inputs.{TookSome, buffered, whole};
+ghost use Rattle.input.specs.Inputs.{SameBuffer, TookSome, buffered, whole};
 ghost use Rattle.calls.specs.Calls.{CallBytes, CountBytes, FieldBytes, Inside, NumberBytes, ReadCall, SameBytes, read_fields};
 
 use input::Reader;
@@ -35,7 +35,8 @@ pub enum NoCall {
 // Reads k numbers; the others are 0.
 fn read_numbers(reader: &mut Reader, k: usize) -> Option<[usize; 3]>
     requires { k ≤ 3 }
-    ensures { IfSome result (λ ns. TookSome (NumberBytes k ns) reader.old reader.new) }
+    ensures took { IfSome result (λ ns. TookSome (NumberBytes k ns) reader.old reader.new) }
+    ensures lent { SameBuffer reader.old reader.new }
 {
     let mut b = [0; 24];
     reader.fill(&mut b[..8 * k])?;
@@ -44,7 +45,8 @@ fn read_numbers(reader: &mut Reader, k: usize) -> Option<[usize; 3]>
 
 // Reads a length, or a count, of at most `most`.
 fn read_size(reader: &mut Reader, most: usize) -> Option<usize>
-    ensures { IfSome result (λ n. TookSome (CountBytes n) reader.old reader.new × (n ≤ most)) }
+    ensures took { IfSome result (λ n. TookSome (CountBytes n) reader.old reader.new × (n ≤ most)) }
+    ensures lent { SameBuffer reader.old reader.new }
 {
     let mut b = [0; 4];
     reader.fill(&mut b)?;
@@ -54,7 +56,8 @@ fn read_size(reader: &mut Reader, most: usize) -> Option<usize>
 
 // Reads a field to the front of `to`: how many items of `item` bytes it has, and then those; its bytes. One for which `to` is too short is cut.
 fn read_field(reader: &mut Reader, item: usize, to: &mut [u8]) -> Option<usize>
-    ensures { IfSome result (λ n. TookSome (FieldBytes item (take n to.new)) reader.old reader.new × (n ≤ length to.old)) }
+    ensures took { IfSome result (λ n. TookSome (FieldBytes item (take n to.new)) reader.old reader.new × (n ≤ length to.old)) }
+    ensures lent { SameBuffer reader.old reader.new }
 {
     if item == 0 {
         return Some(0);
@@ -69,6 +72,7 @@ fn read_rest(reader: &mut Reader, byte: u8, fields: &mut Fields) -> Option<Call>
     ensures took { IfSome result (λ c. TookSome (λ t. CallBytes c.byte c.numbers (read_fields c fields.new) (byte ∷ t)) reader.old reader.new) }
     ensures inside { IfSome result (λ c. Inside c fields.new.first.now fields.new.second.now fields.new.third.now fields.new.fourth.now) }
     ensures same { SameBytes fields.old fields.new }
+    ensures lent { SameBuffer reader.old reader.new }
 {
     let shape = shapes::shape_of(byte)?;
     let numbers = read_numbers(reader, shape.numbers)?;
@@ -88,6 +92,7 @@ pub fn read_call(reader: &mut Reader, fields: &mut Fields) -> Result<Call, NoCal
     ensures read_call { IfOk result (λ c. ReadCall reader.old c reader.new (read_fields c fields.new)) }
     ensures inside { IfOk result (λ c. Inside c fields.new.first.now fields.new.second.now fields.new.third.now fields.new.fourth.now) }
     ensures same { SameBytes fields.old fields.new }
+    ensures lent { SameBuffer reader.old reader.new }
     ensures end { result ≡ Err NoCall.End → buffered reader.old ≡ [] }
     ensures cut { OnErr result (whole reader.new ≡ false) }
 {
@@ -100,3 +105,6 @@ pub fn read_call(reader: &mut Reader, fields: &mut Fields) -> Result<Call, NoCal
         }
     }
 }
+
+#[cfg(test)]
+mod tests;

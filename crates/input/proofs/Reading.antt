@@ -7,7 +7,7 @@ use native.Mathlib.Numerals.{add-one}
 use native.Mathlib.Omega.{arith}
 use lib.ListN.{drop, get_or, length, take}
 use lib.Seq.{drop-cons}
-use Rattle.input.specs.Inputs.{Follows, Took, TookSome, buffered, whole}
+use Rattle.input.specs.Inputs.{Follows, SameBuffer, Took, TookSome, buffered, whole}
 use Rattle.input.specs.declared.Reader.{Reader}
 
 -- nothing was read
@@ -15,7 +15,7 @@ pub took_none : (r : Reader) → Took r [] r
 took_none r = record { uncut = refl; follows = record { came = []; same = append-nil _ } }
 
 -- what follows, and what follows that
-follows_both : {r s t y z : List ℕ} → Follows r s y → Follows y t z → Follows r (s ++ t) z
+pub follows_both : {r s t y z : List ℕ} → Follows r s y → Follows y t z → Follows r (s ++ t) z
 follows_both {r} {s} {t} {y} {z} f g =
     record {
       came = f.came ++ g.came;
@@ -25,6 +25,10 @@ follows_both {r} {s} {t} {y} {z} f g =
 -- first s was read, and then t
 pub took_both : {i j k : Reader} {s t : List ℕ} → Took i s j → Took j t k → Took i (s ++ t) k
 took_both p q = record { uncut = q.uncut ∙ p.uncut; follows = follows_both p.follows q.follows }
+
+-- the same bytes were lent before and after, and in between
+pub lent_both : {i j k : Reader} → SameBuffer i j → SameBuffer j k → SameBuffer i k
+lent_both p q = record { lent = q.lent ∙ p.lent; long = q.long ∙ p.long }
 
 -- where nothing is left, nothing stands in the buffer
 pub none_left : (r : Reader) → r.at ≡ r.end → buffered r ≡ []
@@ -38,14 +42,21 @@ front b a e h l =
     rw (n, drop-cons b a 0 (omega arith), add-one)
 
 -- the next byte of the buffer
-pub took_next : (r q : Reader) → r.at < r.end → q.buffer.now ≡ r.buffer.now → q.at ≡ r.at + 1 → q.end ≡ r.end → q.whole ≡ r.whole → Took r (get_or r.buffer.now r.at 0 ∷ []) q
+pub follows_next : (r q : Reader) → r.at < r.end → q.buffer.now ≡ r.buffer.now → q.at ≡ r.at + 1 → q.end ≡ r.end → Follows (buffered r) (get_or r.buffer.now r.at 0 ∷ []) (buffered q)
 unfolding buffered
-took_next r q h b a e w = record { uncut = w; follows = record { came = []; same = append-nil _ ∙ front r.buffer.now r.at r.end h r.in_buffer.1 ∙ rw (b, a, e) refl } }
+follows_next r q h b a e = record { came = []; same = append-nil _ ∙ front r.buffer.now r.at r.end h r.in_buffer.1 ∙ rw (b, a, e) refl }
+
+pub took_next : (r q : Reader) → r.at < r.end → q.buffer.now ≡ r.buffer.now → q.at ≡ r.at + 1 → q.end ≡ r.end → q.whole ≡ r.whole → Took r (get_or r.buffer.now r.at 0 ∷ []) q
+took_next r q h b a e w = record { uncut = w; follows = follows_next r q h b a e }
 
 -- what was read was read of the reader as it was, or of a new buffer, where the old one was used up
+pub follows_from : {r q : Reader} {t z : List ℕ} → (q ≡ r) ⊎ (r.at ≡ r.end) → Follows (buffered q) t z → Follows (buffered r) t z
+follows_from {t = t} {z} (inl e) p = subst (λ (x : Reader). Follows (buffered x) t z) e p
+follows_from {r} {q} (inr e) p = record { came = buffered q ++ p.came; same = rw (none_left r e) p.same }
+
 pub took_from : {r q s : Reader} {t : List ℕ} → (q ≡ r) ⊎ ((r.at ≡ r.end) × (whole q ≡ whole r)) → Took q t s → Took r t s
 took_from {s = s} {t} (inl e) p = subst (λ (x : Reader). Took x t s) e p
-took_from {r} {q} (inr (e, w)) p = record { uncut = p.uncut ∙ w; follows = record { came = buffered q ++ p.follows.came; same = rw (none_left r e) p.follows.same } }
+took_from (inr (e, w)) p = record { uncut = p.uncut ∙ w; follows = follows_from (inr e) p.follows }
 
 -- what was read is known
 pub some_took : {P : List ℕ → Type 0} {r q : Reader} {t : List ℕ} → Took r t q → P t → TookSome P r q

@@ -1,5 +1,5 @@
 -- What is still to be read of the input, and what was read of it.
-use Rattle.std.specs.Prelude.{Bool, List, ◌++◌, ◌≡◌, ℕ, ◌-◌, drop, take}
+use Rattle.std.specs.Prelude.{Bool, List, ◌++◌, ◌≡◌, ℕ, ◌-◌, drop, length, take}
 use Rattle.input.specs.declared.Reader.{Reader}
 
 -- the bytes in the buffer of the reader r that are still to be read
@@ -9,6 +9,11 @@ buffered r = take (r.end - r.at) (drop r.at r.buffer.now)
 -- all that was asked of the reader r was there
 abbrev pub whole : Reader → Bool
 whole r = r.whole
+
+-- the reader lies over the same lent bytes, of which there are as many, whatever they hold
+pub record SameBuffer (r r' : Reader) : Type 0 where
+  pub lent : r'.buffer.ghost_name ≡ r.buffer.ghost_name
+  pub long : length r'.buffer.now ≡ length r.buffer.now
 
 -- the bytes s, and some that came after them, are the bytes t and then the bytes z: none of s is lost, doubled or out of its order. Of those that came
 -- after them nothing is said: the contract of `read` does not say which they are.

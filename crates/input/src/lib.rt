@@ -18,12 +18,13 @@ pub struct Reader<'a> {
 }
 
 impl<'a> Reader<'a> {
-    ghost use Rattle.input.specs.Inputs.{Took, buffered, whole};
+    ghost use Rattle.input.specs.Inputs.{SameBuffer, Took, buffered, whole};
 
     // Before anything was read.
     pub fn new(stdin: Stdin, buffer: &'a mut [u8]) -> Reader<'a>
         ensures buffered { buffered result ≡ [] }
         ensures whole { whole result ≡ true }
+        ensures lent { (result.buffer.ghost_name ≡ buffer.entry.ghost_name) × (result.buffer.now ≡ buffer.old) }
     {
         Reader {
             stdin,
@@ -36,7 +37,8 @@ impl<'a> Reader<'a> {
 
     // Where something that was asked for was not there.
     pub fn cut(&mut self)
-        ensures { (self.new.at ≡ 0) × (self.new.end ≡ 0) × (whole self.new ≡ false) }
+        ensures cut { (self.new.at ≡ 0) × (self.new.end ≡ 0) × (whole self.new ≡ false) }
+        ensures lent { SameBuffer self.old self.new }
     {
         self.at = 0;
         self.end = 0;
@@ -45,7 +47,8 @@ impl<'a> Reader<'a> {
 
     // Reads what has come of the input, and waits only where nothing has: whether anything stands in the buffer then. Where something was not there, nothing is read.
     fn refill(&mut self) -> Option<()>
-        ensures { MatchOption result (whole self.new ≡ false) (λ _. (self.new.at ≡ 0) × (0 < self.new.end) × (whole self.old ≡ true) × (whole self.new ≡ true)) }
+        ensures refilled { MatchOption result (whole self.new ≡ false) (λ _. (self.new.at ≡ 0) × (0 < self.new.end) × (whole self.old ≡ true) × (whole self.new ≡ true)) }
+        ensures lent { SameBuffer self.old self.new }
     {
         let whole = self.whole;
         self.cut();
@@ -63,7 +66,8 @@ impl<'a> Reader<'a> {
 
     // Reads a byte; where the buffer is used up, it is read anew. There is none where, with it used up, the input has ended or something was not there before.
     pub fn byte(&mut self) -> Option<u8>
-        ensures { MatchOption result ((buffered self.old ≡ []) × (whole self.new ≡ false)) (λ x. Took self.old (x ∷ []) self.new) }
+        ensures took { MatchOption result ((buffered self.old ≡ []) × (whole self.new ≡ false)) (λ x. Took self.old (x ∷ []) self.new) }
+        ensures lent { SameBuffer self.old self.new }
     {
         if self.at == self.end {
             self.refill()?;
@@ -75,7 +79,8 @@ impl<'a> Reader<'a> {
 
     // Reads as many bytes as `to` has.
     pub fn fill(&mut self, to: &mut [u8]) -> Option<()>
-        ensures { MatchOption result (whole self.new ≡ false) (λ _. Took self.old to.new self.new) }
+        ensures took { MatchOption result (whole self.new ≡ false) (λ _. Took self.old to.new self.new) }
+        ensures lent { SameBuffer self.old self.new }
     {
         for slot in to.iter_mut() {
             *slot = self.byte()?;
@@ -83,3 +88,6 @@ impl<'a> Reader<'a> {
         Some(())
     }
 }
+
+#[cfg(test)]
+mod tests;

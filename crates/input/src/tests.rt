@@ -1,0 +1,31 @@
+// Readers that are never asked for more than stands in their buffer.
+use super::*;
+
+// What stands in the buffer is read, a reader that was cut reads nothing, and what was lent comes back.
+#[test]
+fn lends_back(rt: HostRuntime) {
+    let mut buffer = [1, 2, 3, 4];
+    let mut reader = Reader {
+        stdin: rt.stdin(),
+        buffer: &mut buffer,
+        at: 1,
+        end: 4,
+        whole: true,
+    };
+    let mut two = [0; 2];
+    assert_eq!(rt; reader.byte(), Some(2));
+    assert_eq!(rt; reader.fill(&mut two), Some(()));
+    assert_eq!(rt; two, [3, 4]);
+    reader.cut();
+    assert_eq!(rt; reader.byte(), None);
+    assert_eq!(rt; buffer, [1, 2, 3, 4]);
+}
+
+// A new reader has nothing to read, and leaves what was lent as it was.
+#[test]
+fn begins_with_nothing(rt: HostRuntime) {
+    let mut buffer = [1, 2, 3, 4];
+    let reader = Reader::new(rt.stdin(), &mut buffer);
+    assert_eq!(rt; reader.end - reader.at, 0);
+    assert_eq!(rt; buffer, [1, 2, 3, 4]);
+}
