@@ -1,4 +1,4 @@
--- What is still to be read of the input, and what was read of it.
+-- What is still to be read of the input, what was read of it, and what a reader lies over.
 use Rattle.std.specs.Prelude.{Bool, List, ◌++◌, ◌≡◌, ℕ, ◌-◌, drop, length, take}
 use Rattle.input.specs.declared.Reader.{Reader}
 

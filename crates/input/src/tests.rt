@@ -1,4 +1,4 @@
-// Readers that are never asked for more than stands in their buffer.
+// Readers that need nothing of the input: what they are asked for stands in their buffer, or they were cut.
 use super::*;
 
 // What stands in the buffer is read, a reader that was cut reads nothing, and what was lent comes back.
