@@ -21,11 +21,12 @@ fn lends_back(rt: HostRuntime) {
     assert_eq!(rt; buffer, [1, 2, 3, 4]);
 }
 
-// A new reader has nothing to read, and leaves what was lent as it was.
+// A new reader begins at the front, where no clause says so, has nothing to read, and leaves what was lent as it was.
 #[test]
 fn begins_with_nothing(rt: HostRuntime) {
     let mut buffer = [1, 2, 3, 4];
     let reader = Reader::new(rt.stdin(), &mut buffer);
-    assert_eq!(rt; reader.end - reader.at, 0);
+    assert_eq!(rt; reader.at, 0);
+    assert_eq!(rt; reader.end, 0);
     assert_eq!(rt; buffer, [1, 2, 3, 4]);
 }
